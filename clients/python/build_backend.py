@@ -65,13 +65,14 @@ def build_sdist(folder, settings=None):
 
 def extension(folder):
     """Builds the C extension in this folder, and returns its path. Raises `OSError` that says what is missing."""
-    compiler, headers, library = os.environ.get("CC") or "cc", sysconfig.get_path("include"), _library()
+    compiler, headers = os.environ.get("CC") or "cc", sysconfig.get_path("include")
+    library, include = _library()
     if not shutil.which(compiler):
         raise OSError(f"no C compiler {compiler} is on the PATH")
     if not pathlib.Path(headers, "Python.h").is_file():
         raise OSError(f"there is no Python.h in {headers} (Debian's package python3-dev)")
     to = pathlib.Path(folder, f"{EXTENSION}{sysconfig.get_config_var('EXT_SUFFIX')}")
-    flags = ["-std=c11", "-O2", "-shared", "-fPIC", f"-I{headers}", f"-I{library.parent / 'include'}", "-o", str(to)]
+    flags = ["-std=c11", "-O2", "-shared", "-fPIC", f"-I{headers}", f"-I{include}", "-o", str(to)]
     words = [compiler, *flags, str(HERE / f"{EXTENSION}.c"), str(library / "libpashkure.a")]
     done = subprocess.run(words, check=False, stdout=subprocess.PIPE, stderr=subprocess.STDOUT, text=True)
     if done.returncode:
@@ -80,17 +81,21 @@ def extension(folder):
 
 
 def _library():
-    """The folder of libpashkure.a."""
+    """The folder of libpashkure.a, and that of its headers."""
     given = os.environ.get("PASHKURE_LIB_DIR")
-    if not given:
-        try:
-            told = subprocess.run(["pkg-config", "--variable=prefix", NAME], check=True, stdout=subprocess.PIPE, stderr=subprocess.DEVNULL, text=True)
-        except (OSError, subprocess.CalledProcessError):
-            raise OSError("PASHKURE_LIB_DIR is not set, and pkg-config knows no pashkure (`./mmdetect library DIR` writes the library)") from None
-        given = os.path.join(told.stdout.strip(), "lib")
-    if not pathlib.Path(given, "libpashkure.a").is_file():
-        raise OSError(f"there is no libpashkure.a in {given} (`./mmdetect library DIR` writes it into DIR/lib)")
-    return pathlib.Path(given).resolve()
+    library = pathlib.Path(given or _told("libdir"))
+    if not (library / "libpashkure.a").is_file():
+        raise OSError(f"there is no libpashkure.a in {library} (`./mmdetect library DIR` writes it into DIR/lib)")
+    return library.resolve(), library.resolve().parent / "include" if given else pathlib.Path(_told("includedir")).resolve()
+
+
+def _told(variable):
+    """What pkg-config says of the library."""
+    try:
+        told = subprocess.run(["pkg-config", f"--variable={variable}", NAME], check=True, stdout=subprocess.PIPE, stderr=subprocess.DEVNULL, text=True)
+    except (OSError, subprocess.CalledProcessError):
+        raise OSError("PASHKURE_LIB_DIR is not set, and pkg-config knows no pashkure (`./mmdetect library DIR` writes the library)") from None
+    return told.stdout.strip()
 
 
 def _with_extension(files):

@@ -34,12 +34,12 @@ fn folder() -> Result<PathBuf, String> {
         return with_archive(Path::new(&folder)).ok_or(format!("the folder of PASHKURE_LIB_DIR, {folder:?}, has no {ARCHIVE}"));
     }
     let program = std::env::var_os("PKG_CONFIG").unwrap_or("pkg-config".into());
-    let told = Command::new(&program).args(["--variable=prefix", "pashkure"]).output();
+    let told = Command::new(&program).args(["--variable=libdir", "pashkure"]).output();
     let told = told.map_err(|error| format!("PASHKURE_LIB_DIR is not set, and {program:?} was not run: {error}"))?;
     if !told.status.success() {
         return Err("PASHKURE_LIB_DIR is not set, and pkg-config knows no pashkure".into());
     }
-    let folder = Path::new(String::from_utf8_lossy(&told.stdout).trim()).join("lib");
+    let folder = PathBuf::from(String::from_utf8_lossy(&told.stdout).trim());
     with_archive(&folder).ok_or(format!("the folder that pkg-config names, {folder:?}, has no {ARCHIVE}"))
 }
 
