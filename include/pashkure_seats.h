@@ -1,4 +1,4 @@
-/* The seats of pashkure_threads.c. Each slot has one, with the worker that takes names by their words, without the mutex. All else is a call of
+/* The seats of pashkure_threads.h. Each slot has one, with the worker that takes names by their words, without the mutex. All else is a call of
  * the desk, and made with the mutex.
  *
  * Of a seat, who has set its word to CALLING reads and writes the rest without the mutex, but for `interrupted` and `has_news`,
@@ -11,7 +11,9 @@
 #include "pashkure_threads.h"
 
 #include <pthread.h>
+#include <sched.h>
 #include <stdatomic.h>
+#include <time.h>
 
 #define NOBODY UINT32_MAX
 
@@ -26,6 +28,9 @@ enum { SLOTS_OF_WORD = 64 };
 
 /* How many addresses stand for the names, for ThreadSanitizer: a bit each in an uint64_t. */
 enum { ORDERS = 64 };
+
+/* So many nanoseconds a thread stays awake for what others have. If each yield is a turn of another program, it sleeps after the first. */
+enum { AWAKE = 50000 };
 
 /* What is kept of each transaction, by its slot. */
 struct seat {
@@ -50,15 +55,16 @@ struct seat {
 struct pashkure_locks {
     pthread_mutex_t mutex;
     pashkure_desk desk;
-    _Atomic uint32_t contenders; /* how many threads wait for the mutex */
-    uint32_t slots;
+    _Atomic uint32_t contenders;  /* how many threads wait for the mutex */
+    uint32_t withdrawing;         /* how many seats are to withdraw */
+    bool has_all;                 /* all names were brought to the desk */
+    uint32_t first_due, last_due; /* wake calls to make, in order */
+    _Atomic uint64_t doubts;      /* above: how often a bit was cleared that may have to be set again; below: how many of these are not decided */
+    char apart[APART];
+    uint32_t slots;                /* this and the next one are written by the opening alone */
     _Atomic uint64_t *may_be_free; /* a bit for each slot. If it is not set, a transaction has the slot, and its end sets it */
-    _Atomic uint64_t doubts;       /* above: how often a bit was cleared that may have to be set again; below: how many of these are not decided */
-    uint32_t withdrawing;          /* how many seats are to withdraw */
-    bool has_all;                  /* all names were brought to the desk */
-    uint32_t first_due, last_due;  /* wake calls to make, in order */
     char orders[ORDERS];           /* for ThreadSanitizer: only their addresses are used */
-    char apart[APART - ORDERS];
+    char apart_too[APART - ORDERS];
     struct seat seats[];
 };
 
@@ -75,6 +81,47 @@ static inline uint32_t generation_of(uint64_t word)
     return (uint32_t)(word >> 32);
 }
 
+/* The seat of a live transaction, in which this thread is the only one from now on, or NULL and the refusal. `to` is CALLING or ENDING. */
+static inline struct seat *take_seat_to(uint32_t to, pashkure_locks *locks, pashkure_key key, pashkure_result *refusal)
+{
+    struct seat *seat;
+    uint64_t word = word_of(key.generation, IDLE);
+    *refusal = PASHKURE_NO_TRANSACTION;
+    if (key.slot >= locks->slots)
+        return NULL;
+    seat = &locks->seats[key.slot];
+    if (atomic_compare_exchange_strong(&seat->word, &word, word_of(key.generation, to)))
+        return seat;
+    if (word == word_of(key.generation, CALLING) || word == word_of(key.generation, ENDING))
+        *refusal = PASHKURE_WAITING;
+    return NULL;
+}
+
+static inline void leave_seat(struct seat *seat, pashkure_key key)
+{
+    atomic_store_explicit(&seat->word, word_of(key.generation, IDLE), memory_order_release);
+}
+
+/* ---- Time and the mutex ---- */
+
+static inline int64_t now(void)
+{
+    struct timespec at;
+    clock_gettime(CLOCK_MONOTONIC, &at);
+    return (int64_t)at.tv_sec * 1000000000 + at.tv_nsec;
+}
+
+/* Yields the processor so often, if the time does not come before: whether it did not. */
+static inline bool yields_before(int64_t time, int yields)
+{
+    while (yields-- > 0) {
+        sched_yield();
+        if (now() >= time)
+            return false;
+    }
+    return true;
+}
+
 /* Sleeps until the mutex is free, and takes it. */
 static inline void sleep_for_mutex(pashkure_locks *locks)
 {
@@ -82,6 +129,20 @@ static inline void sleep_for_mutex(pashkure_locks *locks)
     pthread_mutex_lock(&locks->mutex);
     atomic_fetch_sub_explicit(&locks->contenders, 1, memory_order_relaxed);
 }
+
+/* ---- Calls of pashkure_threads.c that its other files make, all but the first one with the mutex ---- */
+
+/* Takes the mutex. */
+void seats_enter(pashkure_locks *locks);
+
+/* Gives the mutex back, and makes the wake calls that are due. */
+void seats_leave(pashkure_locks *locks);
+
+/* Ends the waits that the last call of the desk ended. */
+void seats_tell(pashkure_locks *locks);
+
+/* Tries again, after an abort, to take back each wait of which the desk answered PASHKURE_CARRIED. */
+void seats_withdraw_again(pashkure_locks *locks);
 
 /* ---- ThreadSanitizer, of which a program that is built with it has these. It sees the mutex, but not the words. ---- */
 

@@ -4,101 +4,32 @@
 #include "pashkure_seats.h"
 
 #include <errno.h>
-#include <sched.h>
-#include <time.h>
 
 enum { FIRST_YIELDS = 2, LOOKS = 3, YIELDS = 32 };
 
-/* So many nanoseconds a thread stays awake for what others have. If each yield is a turn of another program, it sleeps after the first. */
-enum { AWAKE = 50000 };
-
-/* After so many names an end lets others have the mutex. It lists so many at a time. */
-enum { PORTION = 32, LISTED = 1024 };
-
-/* The longest name that there can be. */
-enum { NAME_BYTES = 1024 };
-
 /* ---- The mutex ---- */
-
-static int64_t now(void)
-{
-    struct timespec at;
-    clock_gettime(CLOCK_MONOTONIC, &at);
-    return (int64_t)at.tv_sec * 1000000000 + at.tv_nsec;
-}
-
-/* Yields the processor so often, if the time does not come before: whether it did not. */
-static bool yields_before(int64_t time, int yields)
-{
-    while (yields-- > 0) {
-        sched_yield();
-        if (now() >= time)
-            return false;
-    }
-    return true;
-}
 
 /* Waits for the mutex, and takes it. To ask for it again at once would slow down the thread that has it, and that is done in a microsecond mostly.
  * So this thread yields its processor twice as often before each further try, while that one makes several calls in a row; then it sleeps. */
 static void contend(pashkure_locks *locks)
 {
     const int64_t end = now() + AWAKE;
+    bool has_mutex = false;
     atomic_fetch_add_explicit(&locks->contenders, 1, memory_order_relaxed);
-    for (int yields = FIRST_YIELDS; yields_before(end, yields); yields *= 2) {
-        if (pthread_mutex_trylock(&locks->mutex) != 0)
-            continue;
-        atomic_fetch_sub_explicit(&locks->contenders, 1, memory_order_relaxed);
-        return;
-    }
-    sleep_for_mutex(locks);
+    for (int yields = FIRST_YIELDS; !has_mutex && yields_before(end, yields); yields *= 2)
+        has_mutex = pthread_mutex_trylock(&locks->mutex) == 0;
+    if (!has_mutex)
+        pthread_mutex_lock(&locks->mutex);
     atomic_fetch_sub_explicit(&locks->contenders, 1, memory_order_relaxed);
 }
 
-static void enter(pashkure_locks *locks)
+void seats_enter(pashkure_locks *locks)
 {
     if (pthread_mutex_trylock(&locks->mutex) != 0)
         contend(locks);
 }
 
 /* ---- Seats ---- */
-
-/* The seat of a live transaction, in which this thread is the only one from now on, or NULL and the refusal. `to` is CALLING or ENDING. */
-static struct seat *take_seat_to(uint32_t to, pashkure_locks *locks, pashkure_key key, pashkure_result *refusal)
-{
-    struct seat *seat;
-    uint64_t word = word_of(key.generation, IDLE);
-    *refusal = PASHKURE_NO_TRANSACTION;
-    if (key.slot >= locks->slots)
-        return NULL;
-    seat = &locks->seats[key.slot];
-    if (atomic_compare_exchange_strong(&seat->word, &word, word_of(key.generation, to)))
-        return seat;
-    if (word == word_of(key.generation, CALLING) || word == word_of(key.generation, ENDING))
-        *refusal = PASHKURE_WAITING;
-    return NULL;
-}
-
-static struct seat *take_seat(pashkure_locks *locks, pashkure_key key, pashkure_result *refusal)
-{
-    return take_seat_to(CALLING, locks, key, refusal);
-}
-
-static void leave_seat(struct seat *seat, pashkure_key key)
-{
-    atomic_store_explicit(&seat->word, word_of(key.generation, IDLE), memory_order_release);
-}
-
-/* Frees a seat whose word says ENDING, and sets its bit if somebody has cleared it. Who clears it looks at the word after that, and sets it again
- * if the transaction ends: then this may have looked before. */
-static void free_seat(pashkure_locks *locks, struct seat *seat, pashkure_key key)
-{
-    _Atomic uint64_t *bits = &locks->may_be_free[key.slot / SLOTS_OF_WORD];
-    const uint64_t bit = (uint64_t)1 << key.slot % SLOTS_OF_WORD;
-    const bool is_set = (atomic_load(bits) & bit) != 0;
-    atomic_store_explicit(&seat->word, word_of(key.generation, FREE), memory_order_release);
-    if (!is_set)
-        atomic_fetch_or(bits, bit);
-}
 
 /* Whether the transaction is to be told of an interrupt, which it is once. */
 static bool is_interrupted(struct seat *seat, pashkure_key key)
@@ -125,8 +56,7 @@ static pashkure_result does(pashkure_locks *locks, uint32_t slot)
 
 /* ---- Waits; all of this with the mutex ---- */
 
-/* Gives the mutex back, and makes the wake calls that are due. */
-static void leave(pashkure_locks *locks)
+void seats_leave(pashkure_locks *locks)
 {
     uint32_t slot = locks->first_due;
     locks->first_due = NOBODY;
@@ -168,8 +98,7 @@ static void end_wait(pashkure_locks *locks, uint32_t slot, pashkure_result over)
     locks->last_due = slot;
 }
 
-/* Ends the waits that the last call of the desk ended. */
-static void tell(pashkure_locks *locks)
+void seats_tell(pashkure_locks *locks)
 {
     pashkure_wake woken;
     for (size_t i = 0; pashkure_desk_woken(&locks->desk, i, &woken); i++)
@@ -182,7 +111,7 @@ static void withdraw(pashkure_locks *locks, uint32_t slot, pashkure_result as)
     struct seat *seat = &locks->seats[slot];
     const pashkure_result told = pashkure_desk_cancel(&locks->desk, slot);
     if (told == PASHKURE_OK) {
-        tell(locks);
+        seats_tell(locks);
         end_wait(locks, slot, as);
     } else if (told == PASHKURE_CARRIED) {
         if (seat->withdraws_as == PASHKURE_OK)
@@ -191,8 +120,7 @@ static void withdraw(pashkure_locks *locks, uint32_t slot, pashkure_result as)
     }
 }
 
-/* Tries again, after an abort, what was answered PASHKURE_CARRIED. */
-static void withdraw_again(pashkure_locks *locks)
+void seats_withdraw_again(pashkure_locks *locks)
 {
     for (uint32_t slot = 0; locks->withdrawing > 0 && slot < locks->slots; slot++) {
         pashkure_result as = locks->seats[slot].withdraws_as;
@@ -235,7 +163,7 @@ static void stay_awake(pashkure_locks *locks, struct seat *seat)
     for (int yields = 0; yields < YIELDS && !atomic_load_explicit(&seat->has_news, memory_order_relaxed); yields++)
         if (!yields_before(end, 1))
             break;
-    enter(locks);
+    seats_enter(locks);
 }
 
 /* Sleeps as long as the desk says that the transaction waits. */
@@ -309,11 +237,11 @@ static pashkure_result lock(pashkure_locks *locks, struct seat *seat, uint32_t s
     result = may_wait ? take_soon(locks, seat, request) : take(locks, seat, request);
     if (PASHKURE_OWNS(result))
         return result;
-    enter(locks);
+    seats_enter(locks);
     result = ask(locks, seat, request, may_wait);
     if (result == PASHKURE_WAITS)
         result = sleep_for(locks, slot, request, limit);
-    leave(locks);
+    seats_leave(locks);
     return took(locks, seat, request, result);
 }
 
@@ -321,7 +249,7 @@ pashkure_result pashkure_locks_lock_all(pashkure_locks *locks, pashkure_key key,
 {
     struct limit limit = {nanoseconds, false, {0, 0}};
     pashkure_result result;
-    struct seat *seat = take_seat(locks, key, &result);
+    struct seat *seat = take_seat_to(CALLING, locks, key, &result);
     for (size_t i = 0; i < count; i++)
         requests[i].result = PASHKURE_NOT_ASKED;
     if (seat != NULL)
@@ -348,11 +276,11 @@ static pashkure_result ask_for(pashkure_locks *locks, struct seat *seat, const p
     pashkure_result result = take(locks, seat, request);
     if (PASHKURE_OWNS(result))
         return result;
-    enter(locks);
+    seats_enter(locks);
     seat->wake = wake;
     seat->context = context;
     result = took(locks, seat, request, ask(locks, seat, request, true));
-    leave(locks);
+    seats_leave(locks);
     return result;
 }
 
@@ -360,7 +288,7 @@ pashkure_result pashkure_locks_ask(pashkure_locks *locks, pashkure_key key, cons
 {
     const pashkure_request request = {name, length, PASHKURE_NOT_ASKED};
     pashkure_result result;
-    struct seat *seat = take_seat(locks, key, &result);
+    struct seat *seat = take_seat_to(CALLING, locks, key, &result);
     if (seat == NULL)
         return result;
     if (is_interrupted(seat, key))
@@ -381,10 +309,10 @@ pashkure_result pashkure_locks_interrupt(pashkure_locks *locks, pashkure_key key
     if (key.slot >= locks->slots)
         return PASHKURE_NO_TRANSACTION;
     seat = &locks->seats[key.slot];
-    enter(locks);
+    seats_enter(locks);
     word = atomic_load_explicit(&seat->word, memory_order_relaxed);
     if (generation_of(word) != key.generation || state_of(word) == FREE) {
-        leave(locks);
+        seats_leave(locks);
         return PASHKURE_NO_TRANSACTION;
     }
     switch (does(locks, key.slot)) {
@@ -392,142 +320,6 @@ pashkure_result pashkure_locks_interrupt(pashkure_locks *locks, pashkure_key key
     case PASHKURE_DEADLOCK: break;
     default: interrupt_next(seat);
     }
-    leave(locks);
+    seats_leave(locks);
     return PASHKURE_OK;
-}
-
-/* ---- Ends ---- */
-
-/* Gives a name back that the worker could not give back by itself. */
-static pashkure_result unlock_at_desk(pashkure_locks *locks, struct seat *seat, const void *name, size_t length)
-{
-    pashkure_result result;
-    seat->is_known = true;
-    enter(locks);
-    result = pashkure_desk_unlock(&locks->desk, &seat->worker, name, length);
-    if (result == PASHKURE_OK)
-        tell(locks);
-    leave(locks);
-    if (result == PASHKURE_FREE)
-        return PASHKURE_OK; /* by now the worker could */
-    return result == PASHKURE_NO_TRANSACTION ? PASHKURE_NOT_OWNER : result;
-}
-
-pashkure_result pashkure_locks_unlock(pashkure_locks *locks, pashkure_key key, const void *name, size_t length)
-{
-    pashkure_result refusal;
-    pashkure_result result = PASHKURE_MUST_ABORT;
-    struct seat *seat = take_seat(locks, key, &refusal);
-    if (seat == NULL)
-        return refusal;
-    if (!seat->is_victim) {
-        gives(locks, name, length);
-        result = pashkure_worker_give_back(&seat->worker, name, length);
-        if (result != PASHKURE_OK)
-            result = unlock_at_desk(locks, seat, name, length);
-    }
-    leave_seat(seat, key);
-    return result;
-}
-
-/* Counts one more. Nobody else writes this number. */
-static void count(_Atomic uint64_t *number)
-{
-    atomic_store_explicit(number, atomic_load_explicit(number, memory_order_relaxed) + 1, memory_order_release);
-}
-
-/* Gives the mutex back, and takes it again: after twice as long as this thread had had it since that time, if others wait for it. */
-static void give_way(pashkure_locks *locks, int64_t since)
-{
-    const int64_t left = now(), had = left - since, end = left + 2 * (had < AWAKE ? had : AWAKE);
-    leave(locks);
-    while (atomic_load_explicit(&locks->contenders, memory_order_relaxed) > 0 && yields_before(end, 1))
-        continue;
-    enter(locks);
-}
-
-/* Gives the name of this number back, which the transaction owns at the desk. */
-static void unlock_number(pashkure_locks *locks, struct seat *seat, uint32_t number)
-{
-    unsigned char name[NAME_BYTES];
-    size_t length;
-    pashkure_key owner;
-    if (pashkure_desk_name(&locks->desk, number, name, sizeof name, &length, &owner) != PASHKURE_OK)
-        return;
-    if (pashkure_desk_unlock(&locks->desk, &seat->worker, name, length) == PASHKURE_OK)
-        tell(locks);
-}
-
-/* Gives the first of these names back, up to a portion: how many. */
-static size_t unlock_portion(pashkure_locks *locks, struct seat *seat, const uint32_t *numbers, size_t count)
-{
-    const size_t first = count < PORTION ? count : PORTION;
-    for (size_t i = 0; i < first; i++)
-        unlock_number(locks, seat, numbers[i]);
-    return first;
-}
-
-/* Gives names back in portions, until no more than one portion is left of what the transaction owns at the desk. */
-static void unlock_portions(pashkure_locks *locks, struct seat *seat, uint32_t slot)
-{
-    uint32_t numbers[LISTED];
-    size_t owned = pashkure_desk_owned(&locks->desk, slot, numbers, LISTED), before = SIZE_MAX, done = 0;
-    while (owned > PORTION && owned < before) {
-        const size_t listed = owned < LISTED ? owned : LISTED;
-        for (done = 0; done < listed;) {
-            const int64_t since = now();
-            done += unlock_portion(locks, seat, numbers + done, listed - done);
-            give_way(locks, since);
-        }
-        before = owned;
-        owned = pashkure_desk_owned(&locks->desk, slot, numbers, LISTED);
-    }
-}
-
-/* Ends the transaction of a seat at the desk, and begins its next one there; nothing, if the desk knows nothing of it. One that is in a deadlock
- * gives all names back at once: the desk takes nothing else of it. */
-static void end_at_desk(pashkure_locks *locks, struct seat *seat, uint32_t slot, bool commits)
-{
-    pashkure_key next;
-    if (pashkure_worker_give_back_all(&seat->worker) == PASHKURE_OK && !seat->is_known)
-        return;
-    enter(locks);
-    if (!seat->is_victim)
-        unlock_portions(locks, seat, slot);
-    if (!commits || pashkure_desk_commit(&locks->desk, &seat->worker) != PASHKURE_OK)
-        (void)pashkure_desk_abort(&locks->desk, &seat->worker);
-    tell(locks);
-    (void)pashkure_desk_begin(&locks->desk, slot, &next);
-    if (!commits)
-        withdraw_again(locks);
-    leave(locks);
-}
-
-static pashkure_result end(pashkure_locks *locks, pashkure_key key, bool commits)
-{
-    pashkure_result result;
-    struct seat *seat = take_seat_to(ENDING, locks, key, &result);
-    if (seat == NULL)
-        return result;
-    if (commits && seat->is_victim) {
-        leave_seat(seat, key);
-        return PASHKURE_MUST_ABORT;
-    }
-    gives_all(locks, seat);
-    end_at_desk(locks, seat, key.slot, commits);
-    seat->is_known = false;
-    seat->is_victim = false;
-    count(commits ? &seat->committed : &seat->aborted);
-    free_seat(locks, seat, key);
-    return PASHKURE_OK;
-}
-
-pashkure_result pashkure_locks_commit(pashkure_locks *locks, pashkure_key key)
-{
-    return end(locks, key, true);
-}
-
-pashkure_result pashkure_locks_abort(pashkure_locks *locks, pashkure_key key)
-{
-    return end(locks, key, false);
 }

@@ -1,9 +1,7 @@
 /* The opening and the close of pashkure_threads.h, the begins, and what it reads. C11 and POSIX threads. */
 #include "pashkure_seats.h"
 
-#include <sched.h>
 #include <stdlib.h>
-#include <time.h>
 
 /* As many buckets as names, but not fewer than this: then two names that are owned seldom share one. More would be slower, since each lies in a
  * cache line of its own mostly. */
@@ -22,6 +20,9 @@ static uint32_t buckets_of(const pashkure_config *config)
  * and no memory is needed to find it. */
 static _Thread_local uint32_t last_slot __attribute__((tls_model("initial-exec"))) = NOBODY;
 
+/* So many slots a begin looks at before it looks for a bit. */
+enum { NEAR = 8 };
+
 /* A bit more that was cleared, and of which it is not decided whether it is to be set again. */
 static const uint64_t DOUBT = ((uint64_t)1 << 32) + 1;
 
@@ -38,6 +39,20 @@ static bool take_slot(pashkure_locks *locks, uint32_t slot, pashkure_key *key)
     last_slot = slot;
     *key = (pashkure_key){slot, generation};
     return true;
+}
+
+/* Begins in one of the slots behind the thread's last one: whether one of the first was free. Clears its bit. */
+static bool take_near(pashkure_locks *locks, pashkure_key *key)
+{
+    uint32_t slot = last_slot % locks->slots;
+    for (int tried = 0; tried < NEAR; tried++) {
+        slot = slot + 1 < locks->slots ? slot + 1 : 0;
+        if (!take_slot(locks, slot, key))
+            continue;
+        atomic_fetch_and(&locks->may_be_free[slot / SLOTS_OF_WORD], ~((uint64_t)1 << slot % SLOTS_OF_WORD));
+        return true;
+    }
+    return false;
 }
 
 /* Whether the slot is free or its transaction ends, and it can be begun in again. */
@@ -84,7 +99,7 @@ pashkure_result pashkure_locks_begin(pashkure_locks *locks, pashkure_key *key)
     static _Atomic uint32_t threads;
     if (last_slot == NOBODY)
         last_slot = atomic_fetch_add_explicit(&threads, 1, memory_order_relaxed);
-    if (take_slot(locks, last_slot % locks->slots, key))
+    if (take_slot(locks, last_slot % locks->slots, key) || take_near(locks, key))
         return PASHKURE_OK;
     for (;;) {
         const uint64_t doubts = atomic_load(&locks->doubts);
@@ -192,7 +207,7 @@ static bool make_seat(pashkure_locks *locks, struct seat *seat, const pthread_co
 {
     if (pashkure_desk_add_worker(&locks->desk, &seat->worker) != PASHKURE_OK)
         return false;
-    seat->between = malloc(APART);
+    seat->between = malloc(APART - sizeof(size_t)); /* the allocator puts a size in front of what follows */
     if (seat->between != NULL && pthread_cond_init(&seat->news, clock) == 0)
         return true;
     free(seat->between);
@@ -214,7 +229,7 @@ static uint32_t make_seats(pashkure_locks *locks)
     return made;
 }
 
-/* Sets the bits of all slots. They lie behind the seats. */
+/* Sets the bits of all slots. They lie behind the seats, and APART from what others have there. */
 static void mark_all(pashkure_locks *locks)
 {
     locks->may_be_free = (_Atomic uint64_t *)&locks->seats[locks->slots];
@@ -235,7 +250,7 @@ pashkure_result pashkure_locks_open(pashkure_locks **locks, const pashkure_confi
     *locks = NULL;
     if (result != PASHKURE_OK)
         return result;
-    opened = calloc(1, sizeof *opened + config->transactions * sizeof opened->seats[0] + words * sizeof opened->may_be_free[0]);
+    opened = calloc(1, sizeof *opened + config->transactions * sizeof opened->seats[0] + words * sizeof opened->may_be_free[0] + APART);
     if (opened == NULL || pthread_mutex_init(&opened->mutex, NULL) != 0) {
         free(opened);
         pashkure_desk_close(&desk);

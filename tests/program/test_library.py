@@ -31,6 +31,7 @@ def text_of(*path: str) -> str:
 HEADER, DESK = (re.sub(r"/\*.*?\*/", "", text_of(INCLUDE, f"{name}.h"), flags=re.S) for name in ("pashkure", "pashkure_desk"))
 SOURCES = "".join(text_of(CRATE, name) for name in sorted(os.listdir(CRATE)))
 TESTS = re.findall(r"^TEST\((\w+)\)", text_of(SOURCE), re.M)
+THREADS = [f"{INCLUDE}/pashkure_threads{part}.c" for part in ("", "_end", "_open")]
 
 
 class HeaderOnly(Case):
@@ -39,7 +40,7 @@ class HeaderOnly(Case):
         """Each header alone, and what is written in C, compile without a warning."""
         wants(compiler)
         alone = [self.file(f"{name}.c", f'#include "{name}.h"\n') for name in ("pashkure", "pashkure_threads", "pashkure_desk")]
-        threads = [f"{INCLUDE}/pashkure_threads.c", f"{INCLUDE}/pashkure_threads_open.c"] if standard in ("c11", "c17") else []
+        threads = THREADS if standard in ("c11", "c17") else []
         for source in (*alone, f"{INCLUDE}/pashkure_text.c", *threads):
             command = [compiler, "-x", language, f"-std={standard}", *FLAGS, f"-I{INCLUDE}", "-fsyntax-only", source]
             self.ends(run(*command))

@@ -31,7 +31,7 @@ class Threads(test_library.LibraryCase):
         flags = [f"-fsanitize={kind}", "-fno-sanitize-recover=all"]
         if run("cc", *flags, "-o", self.path("empty"), self.file("empty.c", "int main(void) { return 0; }\n")).status:
             raise unittest.SkipTest(f"the compiler has no -fsanitize={kind}")
-        self.passes(run(self.built("-pthread", LAYER, WRAPPED, *flags, SOURCE, f"{INCLUDE}/pashkure_threads.c", f"{INCLUDE}/pashkure_threads_open.c")))
+        self.passes(run(self.built("-pthread", LAYER, WRAPPED, *flags, SOURCE, *test_library.THREADS)))
 
     def test_race(self) -> None:
         """ThreadSanitizer reports two threads that count in one place under different names, and none under one name."""
