@@ -1,11 +1,13 @@
 /* What threads have to wait for, over pashkure_threads.h. `transfers_beside end` prints how many transactions of four names two threads commit in a
    second while a third one owns 50,000 names, how many while that one commits, and how many microseconds its commit takes: medians of nine.
    `transfers_beside wait` prints the longest time, in microseconds, that a thread needs to lock a name and give it back of which another thread does
-   nothing else, beside two busy loops a processor, once a millisecond for three seconds. `transfers_beside hand` does that with one mutex. */
+   nothing else, beside two busy loops a processor, once a millisecond for three seconds. `transfers_beside hand` does that with one mutex. All of it is
+   at normal priority: the loops take all processors. */
 #define _GNU_SOURCE
 #include <pashkure_threads.h>
 
 #include <pthread.h>
+#include <sched.h>
 #include <signal.h>
 #include <stdatomic.h>
 #include <stdio.h>
@@ -191,6 +193,7 @@ int main(int count, char **words)
 {
     if (count != 2)
         return 2;
+    sched_setscheduler(0, SCHED_OTHER, &(struct sched_param){0});
     open_locks();
     if (strcmp(words[1], "end") == 0)
         end_of_a_large_one();

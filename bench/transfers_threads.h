@@ -1,6 +1,7 @@
 /* The threads of bench/transfers in C: a program includes this file, and gives the locks by four functions. `PROGRAM THREADS NAMES MILLISECONDS`
    makes transactions of four locks each in so many threads; if NAMES is 0, each thread has four names of its own. It prints how many nanoseconds
-   that took, how many transactions were committed, and how often one was aborted after a deadlock. */
+   that took, how many transactions were committed, and how often one was aborted after a deadlock. The threads look at the clock themselves: at
+   real-time priority they leave no processor to another one. */
 #include <pthread.h>
 #include <stdatomic.h>
 #include <stdint.h>
@@ -8,14 +9,14 @@
 #include <stdlib.h>
 #include <string.h>
 #include <time.h>
-#include <unistd.h>
 
-enum { NAME_BYTES = 16, MAX_THREADS = 64 };
+enum { NAME_BYTES = 16, MAX_THREADS = 64, BETWEEN_LOOKS = 64 };
 
 static char (*names)[NAME_BYTES + 1];
 static uint32_t name_count;
-static int is_own; /* each thread has names of its own */
-static atomic_bool stop;
+static int is_own;                 /* each thread has names of its own */
+static int64_t length;             /* of the run, in nanoseconds */
+static _Atomic int64_t start, end; /* 0 before */
 static pthread_barrier_t gate;
 
 static void open_locks(void);
@@ -63,6 +64,20 @@ static void four_names(uint64_t *state, uint32_t *chosen)
     }
 }
 
+static int64_t now(void)
+{
+    struct timespec at;
+    clock_gettime(CLOCK_MONOTONIC, &at);
+    return at.tv_sec * 1000000000LL + at.tv_nsec;
+}
+
+/* Stores the time, unless one is stored. */
+static void set_time(_Atomic int64_t *time)
+{
+    int64_t none = 0;
+    atomic_compare_exchange_strong(time, &none, now());
+}
+
 static void *work(void *argument)
 {
     struct done *done = argument;
@@ -70,14 +85,17 @@ static void *work(void *argument)
     uint32_t chosen[4];
     uint32_t session = open_session();
     pthread_barrier_wait(&gate);
+    set_time(&start);
     for (uint32_t place = 0; place < 4; place++)
         chosen[place] = 4 * (uint32_t)(done->seed - 1) + place;
-    while (!atomic_load(&stop)) {
+    while (atomic_load(&end) == 0) {
         if (!is_own)
             four_names(&state, chosen);
         while (!transfer(session, chosen))
             done->aborts++;
         done->commits++;
+        if (done->commits % BETWEEN_LOOKS == 0 && now() - atomic_load(&start) >= length)
+            set_time(&end);
     }
     close_session(session);
     return NULL;
@@ -101,26 +119,20 @@ int main(int count, char **words)
         name_count = 4 * (uint32_t)threads;
     make_names();
     open_locks();
-    pthread_barrier_init(&gate, NULL, (unsigned)threads + 1);
+    length = atoi(words[3]) * 1000000LL;
+    pthread_barrier_init(&gate, NULL, (unsigned)threads);
     pthread_t started[MAX_THREADS];
     struct done done[MAX_THREADS] = {0};
     for (int thread = 0; thread < threads; thread++) {
         done[thread].seed = (uint64_t)thread + 1;
         pthread_create(&started[thread], NULL, work, &done[thread]);
     }
-    struct timespec start, end;
-    pthread_barrier_wait(&gate);
-    clock_gettime(CLOCK_MONOTONIC, &start);
-    usleep((useconds_t)atoi(words[3]) * 1000);
-    clock_gettime(CLOCK_MONOTONIC, &end);
-    atomic_store(&stop, 1);
     uint64_t commits = 0, aborts = 0;
     for (int thread = 0; thread < threads; thread++) {
         pthread_join(started[thread], NULL);
         commits += done[thread].commits;
         aborts += done[thread].aborts;
     }
-    int64_t took = (end.tv_sec - start.tv_sec) * 1000000000LL + (end.tv_nsec - start.tv_nsec);
-    printf("%lld %llu %llu\n", (long long)took, (unsigned long long)commits, (unsigned long long)aborts);
+    printf("%lld %llu %llu\n", (long long)(end - start), (unsigned long long)commits, (unsigned long long)aborts);
     return 0;
 }
