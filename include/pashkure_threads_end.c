@@ -2,7 +2,7 @@
 #include "pashkure_seats.h"
 
 /* After so many names an end lets others have the mutex. It lists so many at a time. */
-enum { PORTION = 32, LISTED = 1024 };
+enum { PORTION = 64, LISTED = 2048 };
 
 /* The longest name that there can be. */
 enum { NAME_BYTES = 1024 };
