@@ -1,6 +1,7 @@
 //! Where threads sleep.
 use crate::wakes::Wakes;
 use crossbeam_utils::CachePadded;
+use mm_mutex::Awake;
 use std::alloc::{AllocError, Global};
 use std::sync::Wait;
 use std::sync::atomic::AtomicBool;
@@ -34,6 +35,18 @@ impl FlaggedParker {
                 break;
             }
             thread::yield_now();
+        }
+        self.parker.park(rt);
+    }
+
+    /// `yield_and_park` by a thread that reads a clock: it yields for no longer than it may stay awake.
+    pub fn yield_by_clock_and_park<R: Wait + Clock>(&self, rt: &R) {
+        self.is_woken.store(false, SeqCst);
+        let awake = Awake::new(rt);
+        for _ in 0..YIELDS {
+            if self.is_woken.load(SeqCst) || !awake.stay_away(rt, 1) {
+                break;
+            }
         }
         self.parker.park(rt);
     }

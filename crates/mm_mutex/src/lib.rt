@@ -4,12 +4,17 @@
 use crossbeam_utils::CachePadded;
 use std::sync::{Mutex, MutexGuard, Wait};
 use std::thread;
+use std::time::{Clock, Duration, Instant};
 
 /// How often a thread that finds the lock taken yields its processor before it asks for the lock again.
 const FIRST_YIELDS: u32 = 2;
 
 /// How often a thread asks again before it sleeps until the lock is free. Before each further time it yields twice as often.
 const TURNS: u32 = 8;
+
+/// How many microseconds a thread that reads a clock stays awake. On a busy machine each yield is a turn of another program, and it sleeps after
+/// the first.
+const AWAKE_MICROS: u64 = 50;
 
 /// A value that one thread at a time may use. What its type promises of all its values, a thread finds there whenever it takes the lock.
 ///
@@ -64,6 +69,71 @@ impl<T> YieldingMutex<T> {
         }
         let guard = self.inside.lock(rt);
         Guard { guard }
+    }
+
+    /// `take` by a thread that reads a clock if the lock is taken: it yields for 50 microseconds at most before it sleeps.
+    #[inline(always)]
+    pub fn take_by_clock<R: Wait + Clock>(&self, rt: &R) -> Guard<'_, T> {
+        match self.inside.try_lock() {
+            Some(guard) => Guard { guard },
+            None => self.contended_by_clock(rt),
+        }
+    }
+
+    /// `contended`, by the clock.
+    #[inline(never)]
+    fn contended_by_clock<R: Wait + Clock>(&self, rt: &R) -> Guard<'_, T> {
+        let awake = Awake::new(rt);
+        let mut yields = FIRST_YIELDS;
+        for _ in 0..TURNS {
+            if !awake.stay_away(rt, yields) {
+                break;
+            }
+            if let Some(guard) = self.inside.try_lock() {
+                return Guard { guard };
+            }
+            yields = yields.saturating_mul(2);
+        }
+        let guard = self.inside.lock(rt);
+        Guard { guard }
+    }
+}
+
+/// A time in which a thread stays awake: 50 microseconds.
+#[derive(Clone, Copy)]
+pub struct Awake {
+    /// `None` if the clock could not be read.
+    start: Option<Instant>,
+}
+
+impl Awake {
+    /// Begins now.
+    pub fn new(clock: &impl Clock) -> Awake {
+        Awake {
+            start: Instant::now(clock).ok(),
+        }
+    }
+
+    /// Yields the processor so often, if the time is not over before. Returns whether it is not. A clock that cannot be read says that it is.
+    pub fn stay_away(&self, clock: &impl Clock, yields: u32) -> bool {
+        for _ in 0..yields {
+            thread::yield_now();
+            if self.is_over(clock) {
+                return false;
+            }
+        }
+        true
+    }
+
+    /// Returns whether the time is over.
+    pub fn is_over(&self, clock: &impl Clock) -> bool {
+        let Some(start) = self.start else {
+            return true;
+        };
+        match start.elapsed(clock) {
+            Ok(took) => took >= Duration::from_micros(AWAKE_MICROS),
+            Err(_) => true,
+        }
     }
 }
 

@@ -2,3 +2,5 @@
 pub mod Owning
 -- what a worker has taken
 pub mod Taking
+-- names are handed over one after another
+pub mod HandedOver

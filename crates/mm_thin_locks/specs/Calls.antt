@@ -1,5 +1,5 @@
 -- What the calls do to the desk behind the lock, by their answers.
-use Rattle.std.specs.Prelude.{◌≡◌, ◌⊎◌, ◌↔◌, ℕ, List, Result, Ok, Err}
+use Rattle.std.specs.Prelude.{◌≡◌, ◌⊎◌, ◌↔◌, ◌<◌, ℕ, List, [], ◌∷◌, length, take, Option, Some, None, Result, Ok, Err, slice_get}
 use Rattle.mm_arena.specs.declared.key.Key.{Key}
 use Rattle.mm_desk.specs.Desk.{DeskState}
 use Rattle.mm_desk.specs.Calls.{AsksAt, TriesAt, UnlocksAt, CommitsAt, AbortsAt, BeginsAt, CancelsAt}
@@ -8,12 +8,19 @@ use Rattle.mm_desk.specs.declared.reply.Tried.TheVariants as tried
 use Rattle.mm_desk.specs.declared.reply.Unlocked.{Unlocked}
 use Rattle.mm_desk.specs.declared.reply.Unlocked.TheVariants.{Done, NotLetGo}
 use Rattle.mm_manager.specs.declared.refusal.Refusal.{Refusal}
+use Rattle.mm_lists.specs.Members.{Among, NoRepeat}
+use Rattle.mm_names.specs.Names.{name_of}
+use Rattle.mm_rules.specs.TableState.{owner_of}
+use Rattle.mm_manager.specs.Reads.{HasStatus}
+use Rattle.mm_manager.specs.declared.reply.Status.{Status}
+use Rattle.mm_manager.specs.declared.reply.Status.TheVariants as status
 use Rattle.mm_manager.specs.declared.reply.Cancel.{Cancel}
 use Rattle.mm_manager.specs.declared.reply.Cancel.TheVariants.{Withdrawn}
 use Rattle.mm_locks.specs.Errors.{Because, error_of}
 use Rattle.mm_locks.specs.declared.error.LockError.{LockError}
 use Rattle.mm_locks.specs.declared.error.LockError.TheVariants.{Deadlock, NotActive, TimedOut}
 use Rattle.mm_thin.specs.Parts.{WorkerState}
+use Rattle.mm_thin_locks.specs.declared.hall.TheConstants.{PORTION}
 use Rattle.mm_thin_locks.specs.declared.hall.Outcome.{Outcome}
 use Rattle.mm_thin_locks.specs.declared.hall.Outcome.TheVariants as outcome
 
@@ -63,6 +70,43 @@ GoesOn ended at answer new = ((answer ≡ Ok Done) × BeginsNext ended at new) �
 abbrev pub CommitsFor : DeskState → ℕ → Result (Unit {0}) LockError → DeskState → Type 0
 CommitsFor old at result new =
     (room : ℕ) × (answer : Result Unlocked Refusal) × (ended : DeskState) × CommitsAt old at room answer ended × GoesOn ended at answer new × (result ≡ told_of answer)
+
+-- ---- an end in portions
+
+-- what the manager says of the transaction of a worker, if there is one
+abbrev pub StatusAt : DeskState → ℕ → Result Status Refusal → Type 0
+StatusAt d at answer = (k : Key) → slice_get d.keys at ≡ Some k → HasStatus d.manager k answer
+
+-- the manager does not say of the transaction of a worker that it is in a deadlock
+abbrev pub IsNoVictim : DeskState → ℕ → Type 0
+IsNoVictim d at = (k : Key) → slice_get d.keys at ≡ Some k → (n : ℕ) (h : Key) → HasStatus d.manager k (Ok (status.Deadlock n h)) → ⊥
+
+-- the desk is asked to hand the name of this number over; or the number has no name, and nothing is done
+abbrev pub HandsNumberOver : DeskState → ℕ → ℕ → DeskState → Type 0
+HandsNumberOver old at number new =
+    ((name : List ℕ) × (name_of old.manager.names number ≡ Some name) × ((answer : Result Unlocked Refusal) × UnlocksAt old at name answer new))
+    ⊎ ((name_of old.manager.names number ≡ None) × (new ≡ old))
+
+-- the desk is asked to hand the names of these numbers over, one after another
+abbrev pub HandsEachOver : DeskState → ℕ → List ℕ → DeskState → Type 0
+HandsEachOver old at [] new = new ≡ old
+HandsEachOver old at (number ∷ numbers) new = (mid : DeskState) × HandsNumberOver old at number mid × HandsEachOver mid at numbers new
+
+-- the transaction of a worker owns more names in the manager than a portion has, and is in no deadlock; those of the first of their numbers, as listed in no order that is promised, are handed over
+pub record HandsPortionOver (old : DeskState) (at : ℕ) (new : DeskState) : Type 0 where
+  pub key : Key
+  pub current : slice_get old.keys at ≡ Some key
+  pub free : IsNoVictim old at
+  pub numbers : List ℕ  -- of all its names
+  pub once : NoRepeat numbers
+  pub owned : (n : ℕ) → Among n numbers ↔ (owner_of old.manager.table n ≡ Some key)
+  pub many : PORTION < length numbers
+  pub over : HandsEachOver old at (take PORTION numbers) new
+
+-- its transaction is ended; or a portion of its names is handed over, and it goes on
+abbrev pub CommitsOrHandsOver : DeskState → ℕ → Option (Result (Unit {0}) LockError) → DeskState → Type 0
+CommitsOrHandsOver old at (Some result) new = CommitsFor old at result new
+CommitsOrHandsOver old at None new = HandsPortionOver old at new
 
 -- its wait is taken back, or that is refused: `TimedOut` says that it is done
 abbrev pub TakesBack : {T : Type 0} → DeskState → ℕ → Result T LockError → DeskState → Type 0

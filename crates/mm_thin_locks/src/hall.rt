@@ -1,17 +1,26 @@
 //! What lies behind the lock.
-ghost use Rattle.std.specs.Prelude.{◌≡◌, ◌≢◌, ◌↔◌, ◌<◌, [], ℕ, Ok, IfErr, IfOk, IsTrue, length};
+ghost use Rattle.std.specs.Prelude.{◌≡◌, ◌≢◌, ◌↔◌, ◌<◌, ◌≤◌, [], ℕ, Ok, Some, None, IfErr, IfNone, IfOk, IfSome, IsTrue, length, take};
+ghost use Rattle.std.specs.Bool.{OnFalse, OnTrue};
 ghost use Rattle.mm_bit_set.specs.BitSet.{HasNoneFrom};
 ghost use Rattle.mm_locks.specs.Overdue.{NotesEnd};
 ghost use Rattle.mm_locks.specs.Wakes.{IsToWake};
+ghost use Rattle.mm_names.specs.Names.{name_of};
 ghost use Rattle.mm_thin.specs.Calls.{GivesSomeUp};
 ghost use Rattle.mm_thin_locks.specs.Granted.{OwnsAt, OwnsFor};
-ghost use Rattle.mm_thin_locks.specs.Calls.{AsksFor, TriesFor, HandsBack, UnlocksFor, CommitsFor, RollsBack, TakesBack, told_of};
+ghost use Rattle.mm_thin_locks.specs.Calls.{AsksFor, TriesFor, HandsBack, UnlocksFor, CommitsFor, CommitsOrHandsOver, HandsNumberOver, HandsPortionOver, IsNoVictim, RollsBack, StatusAt, TakesBack, told_of};
 
 use crate::tokens::Granted;
 use mm_desk::{Asked, Desk, Room, Tried, Unlocked};
 use mm_locks::{LockError, MAX_WAKES, PendingWakes, Wakes, owns};
-use mm_manager::{Cancel, Refusal, Status, Totals};
+use mm_manager::{Cancel, LockManager, Refusal, Status, Totals};
+use mm_names::NamesConfig;
 use mm_thin::{GiveUp, Worker};
+
+/// After so many names an end lets others have the lock.
+const PORTION: usize = 256;
+
+/// How many bytes a name may have.
+const MAX_NAME: usize = NamesConfig::MAX_NAME_BYTES as usize;
 
 /// The desk, room for what an end looks at, the processes whose wake-up is still pending, and the workers of no session.
 #[derive(Drop)]
@@ -114,7 +123,9 @@ impl Hall {
     }
 
     /// Returns what the transaction of a worker does.
-    fn status(&self, at: u32) -> Result<Status, Refusal> {
+    fn status(&self, at: u32) -> Result<Status, Refusal>
+        ensures { StatusAt self.now.desk at result }
+    {
         match self.desk.key_of(at) {
             Some(key) => self.desk.manager().status(key),
             None => Err(Refusal::NoTransaction),
@@ -179,14 +190,30 @@ impl Hall {
         self.desk.unlock(at, name)
     }
 
-    /// Ends a transaction. One whose end is refused is rolled back.
-    pub(crate) fn commit(&mut self, worker: &mut Worker, wakes: &mut Wakes) -> Result<(), LockError>
+    /// Ends a transaction. One whose end is refused is rolled back. `None`: it owns many names in the manager, a portion of them is handed over,
+    /// and this is to be called again.
+    pub(crate) fn commit(
+        &mut self,
+        worker: &mut Worker,
+        wakes: &mut Wakes,
+    ) -> Option<Result<(), LockError>>
         ensures leaves { GivesSomeUp worker.old worker.new }
-        ensures commits { CommitsFor self.old.desk worker.old.at result self.new.desk }
-        ensures in_time { IfErr result (λ error. error ≢ LockError.TimedOut) }
+        ensures commits { CommitsOrHandsOver self.old.desk worker.old.at result self.new.desk }
+        ensures in_time { IfSome result (λ answer. IfErr answer (λ error. error ≢ LockError.TimedOut)) }
     {
         let at = worker.at();
         let _ = worker.leave_all();
+        if self.unlock_portion(at, wakes) {
+            return None;
+        }
+        Some(self.finish(at, wakes))
+    }
+
+    /// Ends the transaction of a worker that has left what it had taken.
+    fn finish(&mut self, at: u32, wakes: &mut Wakes) -> Result<(), LockError>
+        ensures commits { CommitsFor self.old.desk at result self.new.desk }
+        ensures in_time { IfErr result (λ error. error ≢ LockError.TimedOut) }
+    {
         let answer = self.desk.commit(at, &mut self.room);
         if is_done(&answer) {
             self.pending.note_end(wakes, self.desk.manager());
@@ -197,14 +224,62 @@ impl Hall {
         done(answer)
     }
 
-    /// Ends a transaction, be it in a deadlock or not.
-    pub(crate) fn roll_back(&mut self, worker: &mut Worker, wakes: &mut Wakes)
+    /// Ends a transaction, be it in a deadlock or not. Returns false if it owns many names in the manager and is in no deadlock: a portion of
+    /// them is handed over, and this is to be called again.
+    pub(crate) fn roll_back(&mut self, worker: &mut Worker, wakes: &mut Wakes) -> bool
         ensures leaves { GivesSomeUp worker.old worker.new }
-        ensures rolls_back { RollsBack self.old.desk worker.old.at self.new.desk }
+        ensures rolls_back { OnTrue result (RollsBack self.old.desk worker.old.at self.new.desk) }
+        ensures hands { OnFalse result (HandsPortionOver self.old.desk worker.old.at self.new.desk) }
     {
         let at = worker.at();
         let _ = worker.leave_all();
+        if self.unlock_portion(at, wakes) {
+            return false;
+        }
         self.abort(at, wakes);
+        true
+    }
+
+    /// Hands a portion of the names over that the transaction of a worker owns in the manager, if it owns more and is in no deadlock. Returns
+    /// whether that is so. The worker has left what it had taken.
+    fn unlock_portion(&mut self, at: u32, wakes: &mut Wakes) -> bool
+        ensures hands { OnTrue result (HandsPortionOver self.old.desk at self.new.desk) }
+        ensures none { OnFalse result (self.new.desk ≡ self.old.desk) }
+    {
+        self.desk.list_owned(at, &mut self.room);
+        if self.room.numbers().len() <= PORTION || self.is_victim(at) {
+            return false;
+        }
+        for k in 0..PORTION {
+            let number = self.room.numbers()[k];
+            self.unlock_number(at, number, wakes);
+        }
+        true
+    }
+
+    /// Hands over the name of this number, if it has one.
+    fn unlock_number(&mut self, at: u32, number: u32, wakes: &mut Wakes)
+        ensures hands { HandsNumberOver self.old.desk at number self.new.desk }
+        ensures room { self.new.room ≡ self.old.room }
+    {
+        let mut bytes = [0u8; MAX_NAME];
+        let Some(length) = copy_name(self.desk.manager(), number, &mut bytes) else {
+            return;
+        };
+        let _ = self.desk.unlock(at, &bytes[..length]);
+        self.pending.note_end(wakes, self.desk.manager());
+    }
+
+    /// Returns whether the transaction of a worker is in a deadlock.
+    fn is_victim(&self, at: u32) -> bool
+        ensures { OnFalse result (IsNoVictim self.now.desk at) }
+    {
+        match self.status(at) {
+            Ok(Status::Deadlock { .. }) => true,
+            Ok(Status::Active) => false,
+            Ok(Status::Waiting { .. }) => false,
+            Err(_) => false,
+        }
     }
 
     /// Aborts the transaction of a worker that has given up what it had, and begins the next one.
@@ -228,6 +303,19 @@ impl Hall {
     pub(crate) fn totals(&self) -> Totals {
         self.desk.manager().totals()
     }
+}
+
+/// Copies the name of a number to the head of these bytes, and returns how many bytes it has. `None` if the number has no name.
+fn copy_name(manager: &LockManager, number: u32, bytes: &mut [u8; MAX_NAME]) -> Option<usize>
+    ensures named { IfSome result (λ size. (size ≤ length bytes.new) × (name_of manager.now.names number ≡ Some (take size bytes.new))) }
+    ensures none { IfNone result (name_of manager.now.names number ≡ None) }
+{
+    manager.keeps_laws();
+    let Some(name) = manager.name(number) else {
+        return None;
+    };
+    bytes[..name.len()].copy_from_slice(name);
+    Some(name.len())
 }
 
 /// Whether a transaction has ended.

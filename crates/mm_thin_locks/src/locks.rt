@@ -14,10 +14,11 @@ use crate::session::Session;
 use mm_desk::{Desk, DeskConfig, Room};
 use mm_locks::{LockError, Parkers, PendingWakes, Wakes};
 use mm_manager::Totals;
-use mm_mutex::{Guard, YieldingMutex};
+use mm_mutex::{Awake, Guard, YieldingMutex};
 use mm_thin::Worker;
 use std::alloc::{AllocError, Global};
 use std::sync::Wait;
+use std::time::Clock;
 
 /// Locks by name that threads share by reference. A name that nobody waits for is locked by one compare-and-swap, and given back by another,
 /// and no lock is taken for that. As soon as a second transaction asks for it, a lock manager behind one lock knows its owner and who waits,
@@ -64,7 +65,7 @@ impl ThinLocks {
     }
 
     /// Returns a session, which makes one transaction at a time. Refused as `TransactionsFull` if there are as many sessions as transactions.
-    pub fn session<'m, R: Wait>(&'m self, rt: &'m R) -> Result<Session<'m, R>, LockError>
+    pub fn session<'m, R: Wait + Clock>(&'m self, rt: &'m R) -> Result<Session<'m, R>, LockError>
         ensures refused { IfErr result (λ error. error ≡ TransactionsFull) }
     {
         let worker = self.hall(rt).inside().take_worker();
@@ -75,14 +76,25 @@ impl ThinLocks {
     }
 
     /// Returns what the manager counted since the opening. It counts no transaction whose names nobody else asked for. Constant time.
-    pub fn totals<R: Wait>(&self, rt: &R) -> Totals {
+    pub fn totals<R: Wait + Clock>(&self, rt: &R) -> Totals {
         self.hall(rt).inside().totals()
     }
 
     /// Takes the lock.
     #[inline(always)]
-    pub(crate) fn hall<R: Wait>(&self, rt: &R) -> Guard<'_, Hall> {
-        self.hall.take(rt)
+    pub(crate) fn hall<R: Wait + Clock>(&self, rt: &R) -> Guard<'_, Hall> {
+        self.hall.take_by_clock(rt)
+    }
+
+    /// Stays away from the lock for as long as a thread that waits for it may stay awake, so that others have their turn.
+    pub(crate) fn give_way<R: Wait + Clock>(&self, rt: &R) {
+        let awake = Awake::new(rt);
+        for _ in rt.forever() {
+            if !awake.stay_away(rt, 1) {
+                return;
+            }
+        }
+        unreachable!()
     }
 
     /// Where the thread of a process's transaction sleeps.
@@ -91,12 +103,12 @@ impl ThinLocks {
     }
 
     /// Takes in the worker of a session that has ended.
-    pub(crate) fn take_in<R: Wait>(&self, rt: &R, worker: Worker) {
+    pub(crate) fn take_in<R: Wait + Clock>(&self, rt: &R, worker: Worker) {
         self.hall(rt).inside().take_in(worker);
     }
 
     /// Wakes these, and then those for which there was no room among them. The lock is free.
-    pub(crate) fn wake<R: Wait>(&self, rt: &R, wakes: &Wakes) {
+    pub(crate) fn wake<R: Wait + Clock>(&self, rt: &R, wakes: &Wakes) {
         self.parkers.wake(wakes);
         if wakes.is_full() {
             self.wake_rest(rt);
@@ -105,7 +117,7 @@ impl ThinLocks {
 
     /// Wakes the processes whose wake-up is still pending, some at a time, until none is left.
     #[inline(never)]
-    fn wake_rest<R: Wait>(&self, rt: &R) {
+    fn wake_rest<R: Wait + Clock>(&self, rt: &R) {
         for _ in rt.forever() {
             let wakes = self.hall(rt).inside().take_pending();
             self.parkers.wake(&wakes);

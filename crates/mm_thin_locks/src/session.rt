@@ -8,22 +8,23 @@ use crate::transaction::Transaction;
 use mm_locks::{FlaggedParker, LockError, Wakes};
 use mm_thin::Worker;
 use std::sync::Wait;
+use std::time::Clock;
 
 /// A thread's way to the locks: it makes one transaction at a time. It is not shared, and may go to another thread.
-pub struct Session<'m, R: Wait> {
+pub struct Session<'m, R: Wait + Clock> {
     pub(crate) rt: &'m R,
     pub(crate) locks: &'m ThinLocks,
     pub(crate) worker: Worker,
 }
 
-impl<'m, R: Wait> Drop for Session<'m, R> {
+impl<'m, R: Wait + Clock> Drop for Session<'m, R> {
     fn drop(self) {
         let Self { rt, locks, worker } = self;
         locks.take_in(rt, worker);
     }
 }
 
-impl<'m, R: Wait> Session<'m, R> {
+impl<'m, R: Wait + Clock> Session<'m, R> {
     pub(crate) fn new(rt: &'m R, locks: &'m ThinLocks, worker: Worker) -> Session<'m, R> {
         Session { rt, locks, worker }
     }
@@ -109,11 +110,17 @@ impl<'m, R: Wait> Session<'m, R> {
     fn commit_known(&mut self) -> Result<(), LockError>
         ensures in_time { IfErr result (λ error. error ≢ LockError.TimedOut) }
     {
-        let mut wakes = Wakes::new();
         let Session { rt, locks, worker } = self;
-        let answer = locks.hall(*rt).inside().commit(worker, &mut wakes);
-        locks.wake(*rt, &wakes);
-        answer
+        for _ in rt.forever() {
+            let mut wakes = Wakes::new();
+            let answer = locks.hall(*rt).inside().commit(worker, &mut wakes);
+            locks.wake(*rt, &wakes);
+            if let Some(answer) = answer {
+                return answer;
+            }
+            locks.give_way(*rt);
+        }
+        unreachable!()
     }
 
     /// Rolls the transaction back that was begun last. The manager is asked if it may know of it.
@@ -127,9 +134,16 @@ impl<'m, R: Wait> Session<'m, R> {
     /// Rolls a transaction back that the manager knows of.
     #[inline(never)]
     fn roll_back_known(&mut self) {
-        let mut wakes = Wakes::new();
         let Session { rt, locks, worker } = self;
-        locks.hall(*rt).inside().roll_back(worker, &mut wakes);
-        locks.wake(*rt, &wakes);
+        for _ in rt.forever() {
+            let mut wakes = Wakes::new();
+            let is_over = locks.hall(*rt).inside().roll_back(worker, &mut wakes);
+            locks.wake(*rt, &wakes);
+            if is_over {
+                return;
+            }
+            locks.give_way(*rt);
+        }
+        unreachable!()
     }
 }

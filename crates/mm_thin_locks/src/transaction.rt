@@ -6,9 +6,10 @@ use crate::hall::Outcome;
 use crate::session::Session;
 use crate::tokens::{Granted, take_thinly};
 use mm_locks::LockError;
-use mm_mutex::stay_away;
+use mm_mutex::{Awake, stay_away};
 use mm_thin::{GiveUp, Take};
 use std::sync::Wait;
+use std::time::Clock;
 
 /// How often the thread of a victim yields its processor when the victim was rolled back. One that began again at once would often close the
 /// same cycle once more, before the others are done.
@@ -20,7 +21,7 @@ const LOOKS: u32 = 3;
 /// A transaction. If it is dropped it is rolled back: all that it owns is handed over, and the processes that were granted something are
 /// woken. After a deadlock the drop then yields the processor for a while, so that the others come to their ends before the caller begins
 /// again.
-pub struct Transaction<'s, 'm, R: Wait> {
+pub struct Transaction<'s, 'm, R: Wait + Clock> {
     pub(crate) session: &'s mut Session<'m, R>,
     /// Whether the manager may know of it.
     is_known: bool,
@@ -28,7 +29,7 @@ pub struct Transaction<'s, 'm, R: Wait> {
     is_victim: bool,
 }
 
-impl<'s, 'm, R: Wait> Drop for Transaction<'s, 'm, R> {
+impl<'s, 'm, R: Wait + Clock> Drop for Transaction<'s, 'm, R> {
     fn drop(self) {
         let Self {
             session,
@@ -42,7 +43,7 @@ impl<'s, 'm, R: Wait> Drop for Transaction<'s, 'm, R> {
     }
 }
 
-impl<'s, 'm, R: Wait> Transaction<'s, 'm, R> {
+impl<'s, 'm, R: Wait + Clock> Transaction<'s, 'm, R> {
     pub(crate) fn new(session: &'s mut Session<'m, R>) -> Transaction<'s, 'm, R> {
         Transaction {
             session,
@@ -147,9 +148,12 @@ impl<'s, 'm, R: Wait> Transaction<'s, 'm, R> {
         ensures granted { IfSome result (IsFor self.old.session.now.worker.at name.now) }
         ensures at { self.new.session.now.worker.at ≡ self.old.session.now.worker.at }
     {
+        let awake = Awake::new(self.session.rt);
         let mut yields = 1u32;
         for _ in 0..LOOKS {
-            stay_away(yields);
+            if !awake.stay_away(self.session.rt, yields) {
+                return None;
+            }
             match take_thinly(&mut self.session.worker, name) {
                 Ok(granted) => return Some(granted),
                 Err(Take::Busy) => {}
@@ -232,7 +236,7 @@ fn is_deadlock(answer: &Result<Outcome<'_>, LockError>) -> bool {
 
 /// Asks the manager for the name, and never waits.
 #[inline(never)]
-fn try_slowly<'n, R: Wait>(
+fn try_slowly<'n, R: Wait + Clock>(
     session: &Session<'_, R>,
     name: &'n [u8],
 ) -> Result<Option<Granted<'n>>, LockError>
@@ -251,7 +255,10 @@ fn try_slowly<'n, R: Wait>(
 
 /// Sleeps until the session's transaction owns what it waits for.
 #[inline(never)]
-fn sleep<'n, R: Wait>(session: &Session<'_, R>, name: &'n [u8]) -> Result<Granted<'n>, LockError>
+fn sleep<'n, R: Wait + Clock>(
+    session: &Session<'_, R>,
+    name: &'n [u8],
+) -> Result<Granted<'n>, LockError>
     ensures granted { IfOk result (IsFor session.now.worker.at name.now) }
     ensures in_time { IfErr result (λ error. error ≢ LockError.TimedOut) }
 {
@@ -259,7 +266,7 @@ fn sleep<'n, R: Wait>(session: &Session<'_, R>, name: &'n [u8]) -> Result<Grante
         return Err(LockError::NotActive);
     };
     for _ in session.rt.forever() {
-        parker.yield_and_park(session.rt);
+        parker.yield_by_clock_and_park(session.rt);
         if let Outcome::Owns(granted) = session.outcome(name)? {
             return Ok(granted);
         }

@@ -3,10 +3,12 @@
 //! `on_locks` opens the locks, lends them to the threads, and drops them: so no test owns locks.
 
 mod alone;
+mod ends;
 mod helpers;
 mod together;
 
 use crate::tests::alone::{each_name_is_known, nine_names_and_a_long_one, one_name_by_two};
+use crate::tests::ends::{End, hand_over_in_portions};
 use crate::tests::together::{cross_often, share_one_place};
 use mm_thin_locks::{ManagerConfig, ThinLocks, ThinLocksConfig};
 use std::alloc::Global;
@@ -24,6 +26,7 @@ enum Work {
     OneNameByTwo,
     Cross,
     OnePlace,
+    Portions(End),
 }
 
 impl Work {
@@ -41,6 +44,7 @@ impl Work {
             Work::OneNameByTwo => one_name_by_two(rt, locks),
             Work::Cross => cross_often(rt, locks, gate, number),
             Work::OnePlace => share_one_place(rt, locks, gate, number),
+            Work::Portions(end) => hand_over_in_portions(rt, locks, gate, number, end),
         }
     }
 
@@ -48,6 +52,7 @@ impl Work {
     fn names(self) -> u32 {
         match self {
             Work::OnePlace => 1,
+            Work::Portions(_) => 1_024,
             _ => 16,
         }
     }
@@ -133,4 +138,16 @@ fn test_one_place_for_two_threads(rt: HostRuntime) {
     assert_eq!(&rt; alone, 1, "one name has the bucket");
     let apart = on_locks(&rt, rt.alloc(), Work::OnePlace, 2, 4_096);
     assert_eq!(&rt; apart, 9, "eight by their words, and one in the manager");
+}
+
+#[test]
+fn test_a_commit_hands_over_in_portions(rt: HostRuntime) {
+    let seen = on_locks(&rt, rt.alloc(), Work::Portions(End::Commit), 2, 4_096);
+    assert_eq!(&rt; seen, 1, "a name was granted while the end went on");
+}
+
+#[test]
+fn test_a_drop_hands_over_in_portions(rt: HostRuntime) {
+    let seen = on_locks(&rt, rt.alloc(), Work::Portions(End::Drop), 2, 4_096);
+    assert_eq!(&rt; seen, 1, "a name was granted while the end went on");
 }

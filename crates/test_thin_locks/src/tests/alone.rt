@@ -51,7 +51,7 @@ static NAMES: [&[u8]; 12] = [
 ];
 
 /// Locks more names than a worker has records, and one that is too long for a record, and gives half of them back before the end.
-pub fn nine_names_and_a_long_one<R: Wait + Abort>(rt: &R, locks: &ThinLocks) -> u64 {
+pub fn nine_names_and_a_long_one<R: Wait + Clock + Abort>(rt: &R, locks: &ThinLocks) -> u64 {
     let mut session = session(rt, locks);
     for _ in 0..2 {
         let mut transaction = session.begin();

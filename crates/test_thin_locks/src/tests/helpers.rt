@@ -2,6 +2,7 @@
 use mm_thin_locks::{Granted, LockError, Session, ThinLocks};
 use std::process::Abort;
 use std::sync::Wait;
+use std::time::Clock;
 
 /// Whether the transaction owns the name now, or why not.
 pub type Answer = Result<bool, LockError>;
@@ -23,7 +24,7 @@ pub fn tried(answer: Result<Option<Granted<'_>>, LockError>) -> Answer {
 }
 
 /// A session, for which there is room.
-pub fn session<'m, R: Wait + Abort>(rt: &'m R, locks: &'m ThinLocks) -> Session<'m, R> {
+pub fn session<'m, R: Wait + Clock + Abort>(rt: &'m R, locks: &'m ThinLocks) -> Session<'m, R> {
     locks.session(rt).expect(rt, "there is room")
 }
 

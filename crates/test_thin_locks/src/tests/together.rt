@@ -3,9 +3,10 @@ use crate::tests::helpers::{is_done, same, session};
 use mm_thin_locks::{LockError, Session, ThinLocks};
 use std::process::Abort;
 use std::sync::{Barrier, Wait};
+use std::time::Clock;
 
 /// Locks the one name and then the other, and commits. Returns whether it was told of a deadlock.
-fn cross<R: Wait + Abort>(rt: &R, session: &mut Session<'_, R>, names: [&[u8]; 2]) -> bool {
+fn cross<R: Wait + Clock + Abort>(rt: &R, session: &mut Session<'_, R>, names: [&[u8]; 2]) -> bool {
     let mut transaction = session.begin();
     same(rt, is_done(transaction.lock(names[0])), Ok(true));
     match is_done(transaction.lock(names[1])) {
@@ -32,7 +33,7 @@ fn cross<R: Wait + Abort>(rt: &R, session: &mut Session<'_, R>, names: [&[u8]; 2
 }
 
 /// Two threads lock two names in opposite orders, until each has committed two hundred times.
-pub fn cross_often<R: Wait + Abort>(
+pub fn cross_often<R: Wait + Clock + Abort>(
     rt: &R,
     locks: &ThinLocks,
     gate: &Barrier,
@@ -66,7 +67,7 @@ static TEN: [&[u8]; 10] = [
 const ROUNDS: usize = 5_000;
 
 /// Owns the second name for some while, and gives it back, at times before the end. The manager may have no room for it.
-fn hold<R: Wait + Abort>(rt: &R, session: &mut Session<'_, R>, round: usize) {
+fn hold<R: Wait + Clock + Abort>(rt: &R, session: &mut Session<'_, R>, round: usize) {
     let mut transaction = session.begin();
     if let Err(LockError::NamesFull) = is_done(transaction.lock(TEN[1])) {
         return;
@@ -81,7 +82,7 @@ fn hold<R: Wait + Abort>(rt: &R, session: &mut Session<'_, R>, round: usize) {
 }
 
 /// Locks the first name, and then the second one. The manager has no room for both, if it is to have them.
-fn want<R: Wait + Abort>(rt: &R, session: &mut Session<'_, R>) {
+fn want<R: Wait + Clock + Abort>(rt: &R, session: &mut Session<'_, R>) {
     let mut transaction = session.begin();
     for name in [TEN[0], TEN[1]] {
         match is_done(transaction.lock(name)) {
@@ -93,7 +94,7 @@ fn want<R: Wait + Abort>(rt: &R, session: &mut Session<'_, R>) {
 }
 
 /// How many of the ten names one transaction can lock.
-fn count_free<R: Wait + Abort>(rt: &R, session: &mut Session<'_, R>) -> u64 {
+fn count_free<R: Wait + Clock + Abort>(rt: &R, session: &mut Session<'_, R>) -> u64 {
     let mut transaction = session.begin();
     let mut owned = 0u64;
     for name in TEN {
@@ -110,7 +111,7 @@ fn count_free<R: Wait + Abort>(rt: &R, session: &mut Session<'_, R>) -> u64 {
 
 /// One thread wants a name of the other one that a manager with room for one name cannot take over, while the other one gives it back. Returns
 /// how many names one transaction could lock after each round, at the least.
-pub fn share_one_place<R: Wait + Abort>(
+pub fn share_one_place<R: Wait + Clock + Abort>(
     rt: &R,
     locks: &ThinLocks,
     gate: &Barrier,

@@ -1,27 +1,10 @@
-use Rattle.std.proofs.Common.{subst, inl, inr, arith}
-use Rattle.mm_desk.specs.Calls.{CommitsAt, BeginsAt}
-use Rattle.mm_thin_locks.specs.Calls.{RollsBack}
+use Rattle.std.proofs.Common.{◌≡◌, subst}
+use Rattle.std.specs.Bool.{OnFalse}
+use Rattle.mm_thin_locks.specs.Calls.{CommitsFor}
 use Rattle.mm_thin_locks.proofs.hall.Hall.commit.Goals as goal
 
-pub returns-then-is_done-clause-commits : goal.returns-then-is_done-clause-commits
-returns-then-is_done-clause-commits c = (
-  c.args.self.now.room.numbers.cap,
-  c.commit-answer.result,
-  c.commit-answer.new.self,
-  subst (λ at. CommitsAt c.args.self.now.desk at c.args.self.now.room.numbers.cap c.commit-answer.result c.commit-answer.new.self) c.at-at.ensures c.commit-answer.ensures.commits,
-  inl (c.is_done.ensures.0 c.if-is_done.true, (c.begin.result, subst (λ at. BeginsAt c.commit-answer.new.self at c.begin.result c.begin.new.self) c.at-at.ensures c.begin.ensures)),
-  c.done.ensures.told,
-)
-
 pub returns-clause-commits : goal.returns-clause-commits
-returns-clause-commits c = (
-  c.args.self.now.room.numbers.cap,
-  c.commit-answer.result,
-  c.commit-answer.new.self,
-  subst (λ at. CommitsAt c.args.self.now.desk at c.args.self.now.room.numbers.cap c.commit-answer.result c.commit-answer.new.self) c.at-at.ensures c.commit-answer.ensures.commits,
-  inr (
-    (λ is. (let never = c.is_done.ensures.1 is in let no = c.if-is_done.false in absurd (grind (arith)))),
-    subst (λ at. RollsBack c.commit-answer.new.self at c.abort.new.self.desk) c.at-at.ensures c.abort.ensures,
-  ),
-  c.done-2.ensures.told,
-)
+returns-clause-commits c =
+    let same = subst (λ is. OnFalse is (c.unlock_portion.new.self.desk ≡ c.args.self.now.desk)) c.if-unlock_portion.false c.unlock_portion.ensures.none in
+    subst (λ at. CommitsFor c.args.self.now.desk at c.finish.result c.finish.new.self.desk) c.at-at.ensures
+    (subst (λ d. CommitsFor d c.at-at.result c.finish.result c.finish.new.self.desk) same c.finish.ensures.commits)
