@@ -1,5 +1,5 @@
 -- Names are handed over one after another.
-use Rattle.std.proofs.Common.{◌≡◌, ℕ, ◌<◌, List, [], ◌∷◌, ◌++◌, length, take, refl, subst, ap, inl, inr, arith}
+use Rattle.std.proofs.Common.{ℕ, ◌<◌, List, [], ◌∷◌, ◌++◌, length, take, refl, subst, ap, inl, inr, arith}
 use Rattle.mm_desk.specs.Calls.{ListsOwned}
 use Rattle.mm_desk.specs.Desk.{DeskState}
 use Rattle.mm_thin_locks.specs.declared.hall.TheConstants.{PORTION}
