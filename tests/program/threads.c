@@ -478,7 +478,8 @@ static void refuses_all(pashkure_key key)
     GIVES(pashkure_locks_abort(locks, key), PASHKURE_WAITING);
 }
 
-/* Of a thread that was given the name too, as long as it has not seen it. A signal is no news. */
+/* Of a thread that was given the name too, as long as it has not seen it. A signal is no news. (It is sent until it is handled: ThreadSanitizer keeps
+ * one that comes before the thread sleeps.) */
 TEST(one_request_at_a_time)
 {
     struct sleeper sleeper;
@@ -487,9 +488,10 @@ TEST(one_request_at_a_time)
     CHECK(sigaction(SIGUSR1, &action, NULL) == 0);
     is_late = true;
     starts(&sleeper, b, "x", PASHKURE_FOREVER);
-    CHECK(pthread_kill(sleeper.thread, SIGUSR1) == 0);
-    while (!is_signalled)
+    while (!is_signalled) {
+        CHECK(pthread_kill(sleeper.thread, SIGUSR1) == 0);
         sched_yield();
+    }
     refuses_all(b);
     ends(a);
     CHECK(state(b) == PASHKURE_OK);
