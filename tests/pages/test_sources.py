@@ -110,7 +110,7 @@ class NoLock(Case):
             self.assertNotIn("pub", fields[1])
         for name, text in functions_of(lock):
             if re.search(r"\.(try_lock|lock|get_mut)\(|-> [^{]*\bGuard\b[^{]*{", text):
-                self.assertIn("R: Wait>", text.partition("{")[0], name)
+                self.assertRegex(text.partition("{")[0], r"R: Wait( \+ Clock)?>", name)
 
     def test_look(self) -> None:
         """What the file of peek and scan names is neither a lock nor a handle, nor a name that it has from elsewhere."""
