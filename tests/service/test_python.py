@@ -334,7 +334,7 @@ class Calls(Opener):
         waited = [event for event in told if (event.key, event.names) in [(one.key, ("b",)), (three.key, ("a",))]]
         same([event.seconds >= event.waited >= 0.01 for event in waited], [True, True])
         text = "\n".join(logs.output)
-        for part in *(part.format(path=locks) for part in self.connected), f"{two.key}: deadlock: the request for 'a'", f"{one.key}: on_event raised an exception", f"WARNING:pashkure:{one.key} has waited for 'b' of {two.key}":
+        for part in *(part.format(path=self.paths[0]) for part in self.connected), f"{two.key}: deadlock: the request for 'a'", f"{one.key}: on_event raised an exception", f"WARNING:pashkure:{one.key} has waited for 'b' of {two.key}":
             self.assertIn(part, text)  # type: ignore[attr-defined]
 
 
