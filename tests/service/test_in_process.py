@@ -218,7 +218,7 @@ class Installed(LibraryCase):
     def test_with_all(self) -> None:
         if not os.path.exists(os.path.join(HEADERS, "Python.h")):
             self.skipTest(f"there is no Python.h in {HEADERS} (Debian's package python3-dev)")
-        self.assertRegex(self.wheel(), r"^pashkure-0\.1\.0-cp3\d+-cp3\d+-\w+\.whl$")
+        self.assertRegex(self.wheel(), r"^pashkure-0\.2\.0-cp3\d+-cp3\d+-\w+\.whl$")
         told = self.used()
         self.assertEqual((told.status, told.out), (0, b"['a']\n"))
 
