@@ -21,7 +21,7 @@ class Bounds(StubCase):
             wire.send(b"".join(b"%d\n" % number for number in range(count)))
             until(lambda place=place: len(self.came()) == min(16 * place, 64), "16 of each have come, as far as there is room")
         wires[5].send(b"other\n")
-        for _ in range(5):  # the server has its turns
+        for _ in range(100):  # the server has its turns
             self.assertEqual(self.wire(server).all(), FULL)
         self.assertEqual(len(self.came()), 64)
         os.kill(server.program_pid(), signal.SIGUSR1)
@@ -61,15 +61,18 @@ class Bounds(StubCase):
         self.asks(self.admin, (b"big 30000000", b"x" * 30_000_000))
 
     def test_program_that_is_slow(self) -> None:
-        """While much waits for the program nobody is read, and so nobody makes the server grow."""
+        """While much waits for the program nobody is read, and so nobody makes the server grow. The lines that the server finds at once are more than
+        a pipe takes, so that it writes a part of them."""
         server, count = self.stubbed("--connections", "120"), 60
-        wires, line = [self.wire(server) for _ in range(120)], b"y" * 1000
+        wires, line = [self.wire(server) for _ in range(120)], b"y" * 1040
         for wire in wires:
             wire.ask(b"first")
         before, pid = server.memory(), server.program_pid()
         stop(pid)
+        stop(server.process.pid)
         for wire in wires:
             wire.send((line + b"\n") * count)
+        os.kill(server.process.pid, signal.SIGCONT)
         for _ in range(50):  # the server has its turns
             self.assertEqual(self.wire(server).all(), FULL)
         self.has_not_grown(server, before, 4_000_000)
