@@ -478,8 +478,9 @@ static void refuses_all(pashkure_key key)
     GIVES(pashkure_locks_abort(locks, key), PASHKURE_WAITING);
 }
 
-/* Of a thread that was given the name too, as long as it has not seen it. A signal is no news. (It is sent until it is handled: ThreadSanitizer keeps
- * one that comes before the thread sleeps.) */
+/* Of a thread that was given the name too, as long as it has not seen it. A signal is no news. (It is sent again if it is not handled: the
+ * ThreadSanitizer of GCC 12 loses one that comes while it takes memory for the thread's signals, at the first call of the thread that blocks. But not
+ * at once: a thread that has a signal to handle each time does nothing else.) */
 TEST(one_request_at_a_time)
 {
     struct sleeper sleeper;
@@ -488,8 +489,9 @@ TEST(one_request_at_a_time)
     CHECK(sigaction(SIGUSR1, &action, NULL) == 0);
     is_late = true;
     starts(&sleeper, b, "x", PASHKURE_FOREVER);
-    while (!is_signalled) {
-        CHECK(pthread_kill(sleeper.thread, SIGUSR1) == 0);
+    for (int yields = 0; !is_signalled; yields++) {
+        if (yields % 100 == 0)
+            CHECK(pthread_kill(sleeper.thread, SIGUSR1) == 0);
         sched_yield();
     }
     refuses_all(b);
