@@ -11,7 +11,7 @@
 
 #define OWNED 4
 
-/* How a transaction ended: IN_VAIN, it was the victim of a deadlock. */
+/* How a transaction ended: IN_VAIN, it was told of a deadlock. */
 enum ended { DONE, IN_VAIN, TOO_EARLY };
 
 static double seconds_for;
@@ -112,7 +112,7 @@ static void commit(struct client *client, const char *key)
 }
 
 /* One transaction. A commit that was sent with a lock is refused if the lock waits; if the wait ended before the commit had its turn, the transaction
- * has ended without the rest of its names, and does not count. */
+ * has ended without the rest of its names, and does not count. So has one whose lock was refused as a deadlock. */
 static enum ended transaction(struct client *client, const unsigned *names)
 {
     char key[32], text[64];
@@ -120,6 +120,10 @@ static enum ended transaction(struct client *client, const unsigned *names)
     bool has_commit = client->is_ahead;
     int next = 0, place = 0;
     while (strcmp(reply, "granted") != 0) {
+        if (strncmp(reply, "deadlock ", 9) == 0 && has_commit) {
+            must(strcmp(client->replies[1], "committed") == 0, client->replies[1]);
+            return IN_VAIN;
+        }
         if (strncmp(reply, "deadlock ", 9) == 0) {
             send_text(client, text, (size_t)snprintf(text, sizeof text, "abort %s\n", key));
             must(strcmp(line_of(client), "aborted") == 0, "abort");

@@ -1,7 +1,7 @@
 /* Rows in memory, whose transactions lock them by pashkure_threads.h: an example to copy from.
  *
- * Two threads close a deadlock: one of them logs the cycle, rolls back, and tries again. Then a transaction waits too long and rolls back to a
- * savepoint, and another one is killed while it waits.
+ * Two threads would deadlock: the one that is told logs the cycle, rolls back to a savepoint, and tries again from there. Then a transaction waits
+ * too long and rolls back to a savepoint, and another one is killed while it waits.
  *
  *     ./mmdetect library DIR
  *     cc -std=c99 row_store.c $(PKG_CONFIG_PATH=DIR/lib/pkgconfig pkg-config --cflags --libs pashkure) */
@@ -102,29 +102,21 @@ static void roll_back(struct transaction *tx)
 
 /* ---- A deadlock ---- */
 
-/* Logs who waits for whom. The cycle stands until its victim aborts. */
-static void log_deadlock(pashkure_key victim)
+/* Logs who waits for whom: this one, as it would, and those that do. */
+static void log_deadlock(pashkure_key told)
 {
-    uint32_t slot = victim.slot;
-    pashkure_locks_hold(locks);
-    do {
-        pashkure_seen seen;
-        pashkure_key owner;
-        char name[16];
-        size_t length;
-        pashkure_result does = pashkure_locks_look(locks, slot, &seen);
-        if (does != PASHKURE_WAITS && does != PASHKURE_DEADLOCK)
-            break;
-        if (pashkure_locks_name(locks, seen.number, name, sizeof name, &length, &owner) == PASHKURE_OK)
-            fprintf(stderr, "deadlock: %s waits for %.*s of %s\n", titles[slot], (int)length, name, titles[owner.slot]);
-        slot = seen.holder.slot;
-    } while (slot != victim.slot);
-    pashkure_locks_let_go(locks);
+    pashkure_wait waits[16];
+    const size_t count = pashkure_locks_cycle(locks, told, waits, 16);
+    for (size_t i = 0; i < count; i++) {
+        const pashkure_wait *wait = &waits[i];
+        fprintf(stderr, "deadlock: %s waits for %.*s of %s\n", titles[wait->key.slot], (int)wait->length, (const char *)wait->name,
+            titles[wait->holder.slot]);
+    }
 }
 
 struct transfer {
     const char *title;
-    unsigned from, to;
+    unsigned mine, from, to;
     pthread_barrier_t *both; /* each has its first row, and asks for that of the other */
     int deadlocks;
 };
@@ -134,9 +126,7 @@ static pashkure_result move_ten(struct transfer *my, struct transaction *tx, boo
     pashkure_result result = add(tx, my->from, -10, PASHKURE_FOREVER);
     if (meets)
         pthread_barrier_wait(my->both);
-    if (result == PASHKURE_OK)
-        result = add(tx, my->to, 10, PASHKURE_FOREVER);
-    return result == PASHKURE_OK ? pashkure_locks_commit(locks, tx->key) : result;
+    return result == PASHKURE_OK ? add(tx, my->to, 10, PASHKURE_FOREVER) : result;
 }
 
 /* Pauses for a random time, up to a millisecond. */
@@ -148,38 +138,41 @@ static void pause_some(unsigned *random)
     nanosleep(&pause, NULL);
 }
 
+/* After a deadlock only the moves are undone, and their rows given back, for one of which the other transaction waits. To ask again before that
+ * would be in vain. */
 static void *transfers(void *given)
 {
     struct transfer *my = given;
     unsigned random = my->from;
-    for (int attempt = 0; attempt < ATTEMPTS; attempt++) {
-        struct transaction tx;
-        pashkure_result result;
-        begin(&tx, my->title);
-        result = move_ten(my, &tx, attempt == 0);
-        if (result == PASHKURE_OK)
-            return NULL;
-        must(result == PASHKURE_DEADLOCK, pashkure_message(result));
-        my->deadlocks++;
+    struct transaction tx;
+    size_t savepoint;
+    pashkure_result result;
+    begin(&tx, my->title);
+    must_be_ok(add(&tx, my->mine, 1, PASHKURE_FOREVER));
+    savepoint = tx.count;
+    while ((result = move_ten(my, &tx, my->deadlocks == 0)) == PASHKURE_DEADLOCK) {
+        must(++my->deadlocks < ATTEMPTS, "too many deadlocks");
         log_deadlock(tx.key);
-        roll_back(&tx);
+        roll_back_to(&tx, savepoint);
         pause_some(&random);
     }
-    must(false, "too many deadlocks");
+    must_be_ok(result);
+    must_be_ok(pashkure_locks_commit(locks, tx.key));
     return NULL;
 }
 
 static void deadlock(void)
 {
     pthread_barrier_t both;
-    struct transfer there = {"there", 0, 1, &both, 0}, back = {"back", 1, 0, &both, 0};
+    struct transfer there = {"there", 6, 0, 1, &both, 0}, back = {"back", 7, 1, 0, &both, 0};
     pthread_t thread;
     must(pthread_barrier_init(&both, NULL, 2) == 0, "no barrier");
     must(pthread_create(&thread, NULL, transfers, &there) == 0, "no thread");
     transfers(&back);
     pthread_join(thread, NULL);
     pthread_barrier_destroy(&both);
-    printf("rows 0 and 1 have %ld and %ld, after %d deadlock\n", rows[0], rows[1], there.deadlocks + back.deadlocks);
+    printf(
+        "rows 0, 1, 6 and 7 have %ld, %ld, %ld and %ld, after %d deadlock\n", rows[0], rows[1], rows[6], rows[7], there.deadlocks + back.deadlocks);
 }
 
 /* ---- A time-out, and a savepoint ---- */

@@ -1,11 +1,15 @@
 /* pashkure.h - exclusive locks on names, for transactions, in your own process.             C99, C++98 and later.
  *
- * A manager answers each request at once and finally: the transaction owns the name, or it waits, or its request closed a cycle of waits
- * (a deadlock, which only the requester is ever told of). No call sleeps, calls back, starts a thread, or prints. What each call below does
- * is proved, but for pashkure_message: README.md says what the proofs rest on.
+ * A manager answers each request at once and finally: the transaction owns the name, or it waits, or its wait would close a cycle of waits
+ * (a deadlock): then the request is refused, and the transaction goes on with what it owns. So between calls nobody waits for itself. No call
+ * sleeps, calls back, starts a thread, or prints. What each call below does is proved, but for pashkure_message: README.md says what the
+ * proofs rest on.
  *
  * Whenever a call ends somebody's wait, pashkure_woken names them, and the caller wakes them as it likes: a condition variable, an eventfd,
  * uv_async_send, a run queue. An event loop needs no more than that.
+ *
+ * After PASHKURE_DEADLOCK give back what others wait for: roll back to a savepoint, or abort. Do not ask for the name again before that: the
+ * answer would be the same, and nobody in the cycle can go on, since each one waits, at the end, for this very transaction.
  *
  *   WHAT THE CALLER OWES, and nothing tests. All else is an answer: a wrong key, a closed manager, a full table, a name of any bytes.
  *   1. One call at a time uses a manager, the reading calls too. A call happens before the next one (by a mutex, a join, or one thread).
@@ -13,7 +17,7 @@
  *   3. Pointers are valid and not NULL, and what a call writes does not overlap what it reads. With length 0 a name is not read.
  *   4. No call in a signal handler, and none in the child of a fork for a manager of its parent (the child would exclude nobody).
  *
- * Memory. pashkure_open takes all of it, from malloc: at most (name_bytes + 71) * names + 102 * transactions + 1,200 bytes. pashkure_close
+ * Memory. pashkure_open takes all of it, from malloc: at most (name_bytes + 71) * names + 81 * transactions + 1,000 bytes. pashkure_close
  * gives all of it back, by free. No other call takes memory, so none fails for want of it.
  *
  * Time. Each call takes constant time, but: a name is hashed and compared; an end hands on each name that the transaction owns; a request
@@ -41,24 +45,20 @@
 extern "C" {
 #endif
 
-/* ---- Results. The numbers do not change. From PASHKURE_REFUSED on, the call has changed nothing. ---- */
+/* ---- Results. The numbers do not change; 5, 6, 8 and 17 stay free. From PASHKURE_REFUSED on, the call has changed nothing. ---- */
 typedef enum pashkure_result {
     PASHKURE_OK = 0,           /* done. Of a request: the transaction owns the name from now on */
     PASHKURE_HELD = 1,         /* the transaction owned the name before; it is still owned once */
-    PASHKURE_WAITS = 2,        /* it waits, and is never a victim later: pashkure_woken will name it. Until then it makes no request */
-    PASHKURE_DEADLOCK = 3,     /* it closed a cycle of waits, and keeps what it owns: undo its work, then pashkure_abort, its one possible call */
+    PASHKURE_WAITS = 2,        /* it waits, and is never told of a deadlock: pashkure_woken will name it. Until then it makes no request */
+    PASHKURE_DEADLOCK = 3,     /* its wait would close a cycle of waits. It does not wait, and goes on with what it owns */
     PASHKURE_BUSY = 4,         /* another one owns the name, and nothing was changed */
-    PASHKURE_LATER = 5,        /* of abort: it waits behind a victim that has yet to abort, and ends in the call that ends its wait */
-    PASHKURE_CARRIED = 6,      /* of cancel: it waits behind a victim that has yet to abort; try again after some pashkure_abort */
     PASHKURE_FREE = 7,         /* nobody owns the name, nobody has the slot, nobody has the number */
-    PASHKURE_ABORTED = 8,      /* its wait has ended, since it has: its abort was LATER, and has come due */
     PASHKURE_TIMED_OUT = 9,    /* 9 to 11 are for callers that sleep, no call below gives them. Its time is up: it waits no longer, and may go on */
     PASHKURE_INTERRUPTED = 10, /* the same, since another thread said so */
     PASHKURE_NOT_ASKED = 11,   /* of several names, one behind the name that was not given */
 
     PASHKURE_REFUSED = 16,           /* not an answer: the first number of a refusal */
     PASHKURE_NO_TRANSACTION = 16,    /* the key is of no live transaction: it ended, or never was */
-    PASHKURE_MUST_ABORT = 17,        /* it was told PASHKURE_DEADLOCK */
     PASHKURE_WAITING = 18,           /* it waits */
     PASHKURE_NOT_WAITING = 19,       /* it does not wait: what it asked for it was given */
     PASHKURE_NAME_EMPTY = 20,        /* the length is 0 */
@@ -119,18 +119,16 @@ typedef struct pashkure {
         NULL, 0                                                                                                                                      \
     }
 
-/* Whose wait the last call ended, and how: PASHKURE_OK, it owns the name of this number; or PASHKURE_ABORTED, it has ended. */
+/* Whose wait the last call ended: it owns the name of this number. */
 typedef struct pashkure_wake {
     pashkure_key key;
     uint32_t number;
-    uint32_t result;
 } pashkure_wake;
 
 /* A live transaction, as pashkure_look sees it. Holder and number are those of its wait; without one they are 0. */
 typedef struct pashkure_seen {
     pashkure_key key, holder;
     uint32_t number;
-    uint32_t is_aborting;
 } pashkure_seen;
 
 /* What was counted since the opening. Live now: begun - committed - aborted. */
@@ -159,47 +157,44 @@ pashkure_result pashkure_begin(pashkure *locks, pashkure_key *key) PASHKURE_CHEC
 
 /* Asks for a name: OK, HELD, WAITS, or DEADLOCK exactly if the wait would close a cycle of waits. Those that wait for one name are given it
  * in the order in which they asked. After OK (and not HELD) note the name, if you have savepoints: to roll back to one is to unlock what was
- * noted since. NO_TRANSACTION, MUST_ABORT, WAITING, COUNTS_FULL, NAME_EMPTY, NAME_TOO_LONG, NAMES_FULL, LABELS_FULL. */
+ * noted since. NO_TRANSACTION, WAITING, COUNTS_FULL, NAME_EMPTY, NAME_TOO_LONG, NAMES_FULL, LABELS_FULL.
+ *
+ * Right after DEADLOCK the waits of the cycle stand, from the owner of the name to this transaction, and this gives them:
+ *     pashkure_key at;
+ *     pashkure_seen seen;
+ *     if (pashkure_owner(&locks, name, length, &at) == PASHKURE_OK)
+ *         for (; pashkure_look(&locks, at.slot, &seen) == PASHKURE_WAITS; at = seen.holder)
+ *             report(seen.key, seen.number, seen.holder);                                                                                    */
 pashkure_result pashkure_lock(pashkure *locks, pashkure_key key, const void *name, size_t length) PASHKURE_CHECKED;
 
 /* As pashkure_lock, but never waits: OK, HELD, or BUSY if another one owns the name. Never DEADLOCK. Refusals as there, no LABELS_FULL. */
 pashkure_result pashkure_try_lock(pashkure *locks, pashkure_key key, const void *name, size_t length) PASHKURE_CHECKED;
 
-/* ---- Ends. After each of these four read pashkure_woken, or somebody sleeps for ever. None is ever refused for want of room or counts. ---- */
+/* ---- Ends. After the first three read pashkure_woken, or somebody sleeps for ever. None is ever refused for want of room or counts. ---- */
 
-/* Gives one name back: OK. NO_TRANSACTION, MUST_ABORT, WAITING, NAME_EMPTY, NAME_TOO_LONG, NOT_OWNER. */
+/* Gives one name back: OK. NO_TRANSACTION, WAITING, NAME_EMPTY, NAME_TOO_LONG, NOT_OWNER. */
 pashkure_result pashkure_unlock(pashkure *locks, pashkure_key key, const void *name, size_t length) PASHKURE_CHECKED;
 
-/* Ends the transaction, and gives back all that it owns: OK. NO_TRANSACTION, MUST_ABORT, WAITING. */
+/* Ends the transaction, and gives back all that it owns: OK. NO_TRANSACTION, WAITING. */
 pashkure_result pashkure_commit(pashkure *locks, pashkure_key key) PASHKURE_CHECKED;
 
-/* The same, of a transaction in any state: OK, or LATER of one that waits. Undo its work first: others own its names when this returns.
- * NO_TRANSACTION. */
+/* The same, also of a transaction that waits: OK. Undo its work first: others own its names when this returns. NO_TRANSACTION. */
 pashkure_result pashkure_abort(pashkure *locks, pashkure_key key) PASHKURE_CHECKED;
 
-/* Takes the wait of the transaction back (a time-out, a killed query): OK, it goes on with what it owns; or CARRIED, it waits on for now. If its
- * abort was LATER, OK says that it has ended. NO_TRANSACTION, MUST_ABORT, NOT_WAITING (it was given the name before). */
+/* Takes the wait of the transaction back (a time-out, a killed query): OK, it goes on with what it owns. It ends no other wait. NO_TRANSACTION,
+ * NOT_WAITING (it was given the name before). */
 pashkure_result pashkure_cancel(pashkure *locks, pashkure_key key) PASHKURE_CHECKED;
 
-/* Whose waits the last unlock, commit, abort or cancel ended, in order, by index from 0: false if there are no more. One that is told of
- * twice was given its name and ended then: the later one counts. It stays until the next call that is no reading one.
+/* Whose waits the last unlock, commit or abort ended, in order, by index from 0: false if there are no more. It stays until the next call that
+ * is no reading one.
  *     pashkure_wake woken;
- *     for (size_t i = 0; pashkure_woken(&locks, i, &woken); i++) wake(woken.key.slot, woken.result);                                      */
+ *     for (size_t i = 0; pashkure_woken(&locks, i, &woken); i++) wake(woken.key.slot);                                                     */
 bool pashkure_woken(const pashkure *locks, size_t index, pashkure_wake *woken);
 
 /* ---- Reading. These change nothing. ---- */
 
-/* What is in a slot: OK (active), WAITS or DEADLOCK, or FREE. Over the slots below config.transactions it gives all transactions, and the
- * wait-for graph. From a victim on, holder by holder, it gives the deadlock: each one on it waits for the next one, until the victim is back.
- * Of one that is no victim, the walk ends at OK (who works) or FREE.
- *     pashkure_seen at;
- *     uint32_t slot = victim.slot;
- *     do {
- *         pashkure_result does = pashkure_look(&locks, slot, &at);
- *         if (does != PASHKURE_WAITS && does != PASHKURE_DEADLOCK) break;
- *         report(at.key, at.number, at.holder);
- *         slot = at.holder.slot;
- *     } while (slot != victim.slot);                                                                                                       */
+/* What is in a slot: OK (active), WAITS, or FREE. Over the slots below config.transactions it gives all transactions, and the wait-for graph.
+ * From one that waits on, holder by holder, it leads to one that works. */
 pashkure_result pashkure_look(const pashkure *locks, uint32_t slot, pashkure_seen *seen);
 
 /* The name of a number, and its owner: OK, or FREE. A name has one number, below config.names, as long as it is owned. The length is written,
@@ -213,8 +208,8 @@ pashkure_result pashkure_owner(const pashkure *locks, const void *name, size_t l
 void pashkure_totals(const pashkure *locks, pashkure_counts *counts);
 
 /* The sizes that the library was built for. An error in these lines: a compiler whose layout is another one. */
-typedef char pashkure_sizes_[sizeof(pashkure_result) == 4 && sizeof(pashkure_key) == 8 && sizeof(pashkure_config) == 32 && sizeof(pashkure_wake) == 16
-                                     && sizeof(pashkure_seen) == 24 && sizeof(pashkure_counts) == 64 && sizeof(pashkure) == 16
+typedef char pashkure_sizes_[sizeof(pashkure_result) == 4 && sizeof(pashkure_key) == 8 && sizeof(pashkure_config) == 32 && sizeof(pashkure_wake) == 12
+                                     && sizeof(pashkure_seen) == 20 && sizeof(pashkure_counts) == 64 && sizeof(pashkure) == 16
                                  ? 1
                                  : -1];
 

@@ -82,14 +82,14 @@ pashkure_result pashkure_desk_unlock(pashkure_desk *desk, pashkure_worker *worke
  * transaction until pashkure_desk_begin. */
 pashkure_result pashkure_desk_commit(pashkure_desk *desk, pashkure_worker *worker);
 
-/* The same, of one in a deadlock too: OK. WAITING of one that waits and is in no deadlock. */
+/* The same, as pashkure_abort: also of one that waits. */
 pashkure_result pashkure_desk_abort(pashkure_desk *desk, pashkure_worker *worker);
 
 /* Begins the next transaction of this worker, if it has no live one, and writes the key of its live one: OK. Refusals as of pashkure_begin. Its
  * slot is the worker's number as long as each end is followed by this call before another worker's end. */
 pashkure_result pashkure_desk_begin(pashkure_desk *desk, uint32_t at, pashkure_key *key);
 
-/* Takes the wait of this worker's transaction back, as pashkure_cancel: OK, CARRIED. */
+/* Takes the wait of this worker's transaction back, as pashkure_cancel: OK, and pashkure_desk_woken is empty. */
 pashkure_result pashkure_desk_cancel(pashkure_desk *desk, uint32_t at);
 
 /* ---- All buckets, with the mutex ---- */

@@ -32,18 +32,28 @@ enum { ORDERS = 64 };
 /* So many nanoseconds a thread stays awake for what others have. If each yield is a turn of another program, it sleeps after the first. */
 enum { AWAKE = 50000 };
 
+/* So many waits of a deadlock are kept at most, and so many bytes of their names together: no name is longer. */
+enum { CYCLE_WAITS = 16, CYCLE_BYTES = 1024 };
+
+/* What the last deadlock was about that a transaction was told of. Only who is in its seat reads or writes it. */
+struct cycle {
+    uint32_t generation; /* of that transaction; 0 if the slot had none */
+    uint32_t count;
+    size_t used; /* of the names, which are one behind the other */
+    pashkure_wait waits[CYCLE_WAITS];
+    unsigned char names[CYCLE_BYTES];
+};
+
 /* What is kept of each transaction, by its slot. */
 struct seat {
     _Atomic uint64_t word;
     _Atomic uint32_t interrupted; /* the generation of the transaction whose next request is to be told; else 0 */
     bool is_known;                /* it may own something at the desk */
-    bool is_victim;
-    _Atomic bool has_news; /* its wait is over; it looks for that before it sleeps */
-    uint64_t orders;       /* for ThreadSanitizer: the addresses of the names that it has taken or asked for */
+    _Atomic bool has_news;        /* its wait is over; it looks for that before it sleeps */
+    uint64_t orders;              /* for ThreadSanitizer: the addresses of the names that it has taken or asked for */
     pashkure_worker worker;
     _Atomic uint64_t committed, aborted; /* how many of the slot's transactions */
     pashkure_result over;                /* how its last wait ended: OK, TIMED_OUT, INTERRUPTED */
-    pashkure_result withdraws_as;        /* as what its wait ends once it can be taken back; OK if it is not to be */
     uint32_t next_due;                   /* in the list of those whose wake call is due */
     pashkure_wake_call *wake;            /* NULL if a thread sleeps */
     void *context;
@@ -56,13 +66,13 @@ struct pashkure_locks {
     pthread_mutex_t mutex;
     pashkure_desk desk;
     _Atomic uint32_t contenders;  /* how many threads wait for the mutex */
-    uint32_t withdrawing;         /* how many seats are to withdraw */
     bool has_all;                 /* all names were brought to the desk */
     uint32_t first_due, last_due; /* wake calls to make, in order */
     _Atomic uint64_t doubts;      /* above: how often a bit was cleared that may have to be set again; below: how many of these are not decided */
     char apart[APART];
-    uint32_t slots;                /* this and the next one are written by the opening alone */
+    uint32_t slots;                /* this and the next two are written by the opening alone */
     _Atomic uint64_t *may_be_free; /* a bit for each slot. If it is not set, a transaction has the slot, and its end sets it */
+    struct cycle *cycles;          /* by slot, apart from the seats: most of this memory is never touched */
     char orders[ORDERS];           /* for ThreadSanitizer: only their addresses are used */
     char apart_too[APART - ORDERS];
     struct seat seats[];
@@ -79,6 +89,12 @@ static inline uint32_t state_of(uint64_t word)
 static inline uint32_t generation_of(uint64_t word)
 {
     return (uint32_t)(word >> 32);
+}
+
+/* The key of the transaction that has a slot: at the desk it has a generation of its own. */
+static inline pashkure_key key_of(const pashkure_locks *locks, uint32_t slot)
+{
+    return (pashkure_key){slot, generation_of(atomic_load_explicit(&locks->seats[slot].word, memory_order_relaxed))};
 }
 
 /* The seat of a live transaction, in which this thread is the only one from now on, or NULL and the refusal. `to` is CALLING or ENDING. */
@@ -140,9 +156,6 @@ void seats_leave(pashkure_locks *locks);
 
 /* Ends the waits that the last call of the desk ended. */
 void seats_tell(pashkure_locks *locks);
-
-/* Tries again, after an abort, to take back each wait of which the desk answered PASHKURE_CARRIED. */
-void seats_withdraw_again(pashkure_locks *locks);
 
 /* ---- ThreadSanitizer, of which a program that is built with it has these. It sees the mutex, but not the words. ---- */
 

@@ -7,17 +7,13 @@ const char *pashkure_message(pashkure_result result)
     case PASHKURE_OK: return "done";
     case PASHKURE_HELD: return "the transaction owned the name before";
     case PASHKURE_WAITS: return "the transaction waits";
-    case PASHKURE_DEADLOCK: return "the request closed a cycle of waits: the transaction is to be aborted";
+    case PASHKURE_DEADLOCK: return "the wait would close a cycle of waits";
     case PASHKURE_BUSY: return "another transaction owns the name";
-    case PASHKURE_LATER: return "the transaction is aborted as soon as its wait ends";
-    case PASHKURE_CARRIED: return "the wait cannot be taken back until a victim has aborted";
     case PASHKURE_FREE: return "nobody owns it";
-    case PASHKURE_ABORTED: return "the transaction was aborted while it waited";
     case PASHKURE_TIMED_OUT: return "the name was not granted in time";
     case PASHKURE_INTERRUPTED: return "the request was interrupted";
     case PASHKURE_NOT_ASKED: return "a name before it was not granted";
     case PASHKURE_NO_TRANSACTION: return "the transaction has ended, or was never begun";
-    case PASHKURE_MUST_ABORT: return "the transaction is in a deadlock, and may only be aborted";
     case PASHKURE_WAITING: return "the transaction waits, and the call is for one that does not";
     case PASHKURE_NOT_WAITING: return "the transaction does not wait";
     case PASHKURE_NAME_EMPTY: return "the name is empty";

@@ -4,6 +4,7 @@
 #include "pashkure_seats.h"
 
 #include <errno.h>
+#include <string.h>
 
 enum { FIRST_YIELDS = 2, LOOKS = 3, YIELDS = 32 };
 
@@ -47,7 +48,7 @@ static void interrupt_next(struct seat *seat)
     atomic_store_explicit(&seat->interrupted, generation_of(word), memory_order_relaxed);
 }
 
-/* What the transaction in the slot does, as the desk knows it: OK, WAITS or DEADLOCK. */
+/* What the transaction in the slot does, as the desk knows it: OK or WAITS. */
 static pashkure_result does(pashkure_locks *locks, uint32_t slot)
 {
     pashkure_seen seen;
@@ -78,12 +79,6 @@ void seats_leave(pashkure_locks *locks)
 static void end_wait(pashkure_locks *locks, uint32_t slot, pashkure_result over)
 {
     struct seat *seat = &locks->seats[slot];
-    if (seat->withdraws_as != PASHKURE_OK) {
-        if (over == PASHKURE_OK && seat->withdraws_as == PASHKURE_INTERRUPTED)
-            interrupt_next(seat);
-        seat->withdraws_as = PASHKURE_OK;
-        locks->withdrawing--;
-    }
     seat->over = over;
     if (seat->wake == NULL) {
         atomic_store_explicit(&seat->has_news, true, memory_order_relaxed);
@@ -102,31 +97,14 @@ void seats_tell(pashkure_locks *locks)
 {
     pashkure_wake woken;
     for (size_t i = 0; pashkure_desk_woken(&locks->desk, i, &woken); i++)
-        end_wait(locks, woken.key.slot, (pashkure_result)woken.result);
+        end_wait(locks, woken.key.slot, PASHKURE_OK);
 }
 
-/* Takes the wait back, or notes that it is to be taken back after some abort. Nothing, if it is over. */
+/* Takes the wait back. Nothing, if it is over. */
 static void withdraw(pashkure_locks *locks, uint32_t slot, pashkure_result as)
 {
-    struct seat *seat = &locks->seats[slot];
-    const pashkure_result told = pashkure_desk_cancel(&locks->desk, slot);
-    if (told == PASHKURE_OK) {
-        seats_tell(locks);
+    if (pashkure_desk_cancel(&locks->desk, slot) == PASHKURE_OK)
         end_wait(locks, slot, as);
-    } else if (told == PASHKURE_CARRIED) {
-        if (seat->withdraws_as == PASHKURE_OK)
-            locks->withdrawing++;
-        seat->withdraws_as = as;
-    }
-}
-
-void seats_withdraw_again(pashkure_locks *locks)
-{
-    for (uint32_t slot = 0; locks->withdrawing > 0 && slot < locks->slots; slot++) {
-        pashkure_result as = locks->seats[slot].withdraws_as;
-        if (as != PASHKURE_OK && does(locks, slot) == PASHKURE_WAITS)
-            withdraw(locks, slot, as);
-    }
 }
 
 /* How long a request may wait. No clock is read before the first wait. */
@@ -178,7 +156,7 @@ static pashkure_result sleep_for(pashkure_locks *locks, uint32_t slot, const pas
     seat->wake = NULL;
     stay_awake(locks, seat);
     while (does(locks, slot) == PASHKURE_WAITS) {
-        if (!has_end || seat->withdraws_as != PASHKURE_OK)
+        if (!has_end)
             pthread_cond_wait(&seat->news, &locks->mutex);
         else if (pthread_cond_timedwait(&seat->news, &locks->mutex, &limit->until) == ETIMEDOUT)
             withdraw(locks, slot, PASHKURE_TIMED_OUT);
@@ -188,11 +166,61 @@ static pashkure_result sleep_for(pashkure_locks *locks, uint32_t slot, const pas
     return seat->over == PASHKURE_TIMED_OUT ? PASHKURE_TIMED_OUT : PASHKURE_INTERRUPTED;
 }
 
+/* ---- Deadlocks ---- */
+
+/* Adds a wait, whose name has been written behind the others: whether there was room for both. */
+static bool add_wait(struct cycle *cycle, pashkure_key key, pashkure_key holder, size_t length)
+{
+    if (cycle->count == CYCLE_WAITS || length > CYCLE_BYTES - cycle->used)
+        return false;
+    cycle->waits[cycle->count++] = (pashkure_wait){key, holder, cycle->names + cycle->used, length};
+    cycle->used += length;
+    return true;
+}
+
+/* Notes the wait that the desk has just refused, and with the mutex still taken those that stand, from the owner of the name on. */
+static void note_cycle(pashkure_locks *locks, uint32_t slot, const pashkure_request *request)
+{
+    struct cycle *cycle = &locks->cycles[slot];
+    const pashkure_key told = key_of(locks, slot);
+    pashkure_seen at = {told, told, 0};
+    size_t length = request->length;
+    cycle->generation = told.generation;
+    cycle->count = 0;
+    cycle->used = 0;
+    memcpy(cycle->names, request->name, length);
+    (void)pashkure_desk_owner(&locks->desk, request->name, length, &at.holder);
+    while (add_wait(cycle, key_of(locks, at.key.slot), key_of(locks, at.holder.slot), length)) {
+        pashkure_key owner;
+        if (pashkure_desk_look(&locks->desk, at.holder.slot, &at) != PASHKURE_WAITS)
+            break; /* the one that was told */
+        (void)pashkure_desk_name(&locks->desk, at.number, cycle->names + cycle->used, CYCLE_BYTES - cycle->used, &length, &owner);
+    }
+}
+
+size_t pashkure_locks_cycle(pashkure_locks *locks, pashkure_key key, pashkure_wait *waits, size_t room)
+{
+    pashkure_result refusal;
+    struct seat *seat = take_seat_to(CALLING, locks, key, &refusal);
+    const struct cycle *cycle;
+    size_t count = 0;
+    if (seat == NULL)
+        return 0;
+    cycle = &locks->cycles[key.slot];
+    if (cycle->generation == key.generation)
+        count = cycle->count;
+    for (size_t i = 0; i < count && i < room; i++)
+        waits[i] = cycle->waits[i];
+    leave_seat(seat, key);
+    return count;
+}
+
 /* ---- Requests ---- */
 
 /* Asks the desk; with the mutex. A transaction that is live here has one at the desk, unless no more can be counted there. */
-static pashkure_result ask(pashkure_locks *locks, struct seat *seat, const pashkure_request *request, bool may_wait)
+static pashkure_result ask(pashkure_locks *locks, uint32_t slot, const pashkure_request *request, bool may_wait)
 {
+    struct seat *seat = &locks->seats[slot];
     pashkure_result result;
     seat->is_known = true;
     hides();
@@ -201,7 +229,8 @@ static pashkure_result ask(pashkure_locks *locks, struct seat *seat, const pashk
                           : pashkure_desk_try_lock(&locks->desk, &seat->worker, request->name, request->length);
     } while (result == PASHKURE_AGAIN);
     shows();
-    seat->is_victim = result == PASHKURE_DEADLOCK;
+    if (result == PASHKURE_DEADLOCK)
+        note_cycle(locks, slot, request);
     return result == PASHKURE_NO_TRANSACTION ? PASHKURE_COUNTS_FULL : result;
 }
 
@@ -231,14 +260,11 @@ static pashkure_result take_soon(pashkure_locks *locks, struct seat *seat, const
 static pashkure_result lock(pashkure_locks *locks, struct seat *seat, uint32_t slot, const pashkure_request *request, struct limit *limit)
 {
     const bool may_wait = limit->nanoseconds > 0;
-    pashkure_result result;
-    if (seat->is_victim)
-        return PASHKURE_MUST_ABORT;
-    result = may_wait ? take_soon(locks, seat, request) : take(locks, seat, request);
+    pashkure_result result = may_wait ? take_soon(locks, seat, request) : take(locks, seat, request);
     if (PASHKURE_OWNS(result))
         return result;
     seats_enter(locks);
-    result = ask(locks, seat, request, may_wait);
+    result = ask(locks, slot, request, may_wait);
     if (result == PASHKURE_WAITS)
         result = sleep_for(locks, slot, request, limit);
     seats_leave(locks);
@@ -271,15 +297,16 @@ pashkure_result pashkure_locks_lock(pashkure_locks *locks, pashkure_key key, con
 }
 
 /* Locks the name, or waits for it from now on, with this call to make when the wait is over. */
-static pashkure_result ask_for(pashkure_locks *locks, struct seat *seat, const pashkure_request *request, pashkure_wake_call *wake, void *context)
+static pashkure_result ask_for(pashkure_locks *locks, uint32_t slot, const pashkure_request *request, pashkure_wake_call *wake, void *context)
 {
+    struct seat *seat = &locks->seats[slot];
     pashkure_result result = take(locks, seat, request);
     if (PASHKURE_OWNS(result))
         return result;
     seats_enter(locks);
     seat->wake = wake;
     seat->context = context;
-    result = took(locks, seat, request, ask(locks, seat, request, true));
+    result = took(locks, seat, request, ask(locks, slot, request, true));
     seats_leave(locks);
     return result;
 }
@@ -291,12 +318,7 @@ pashkure_result pashkure_locks_ask(pashkure_locks *locks, pashkure_key key, cons
     struct seat *seat = take_seat_to(CALLING, locks, key, &result);
     if (seat == NULL)
         return result;
-    if (is_interrupted(seat, key))
-        result = PASHKURE_INTERRUPTED;
-    else if (seat->is_victim)
-        result = PASHKURE_MUST_ABORT;
-    else
-        result = ask_for(locks, seat, &request, wake, context);
+    result = is_interrupted(seat, key) ? PASHKURE_INTERRUPTED : ask_for(locks, key.slot, &request, wake, context);
     if (result != PASHKURE_WAITS)
         leave_seat(seat, key); /* else it is left when the wait ends */
     return result;
@@ -315,11 +337,10 @@ pashkure_result pashkure_locks_interrupt(pashkure_locks *locks, pashkure_key key
         seats_leave(locks);
         return PASHKURE_NO_TRANSACTION;
     }
-    switch (does(locks, key.slot)) {
-    case PASHKURE_WAITS: withdraw(locks, key.slot, PASHKURE_INTERRUPTED); break;
-    case PASHKURE_DEADLOCK: break;
-    default: interrupt_next(seat);
-    }
+    if (does(locks, key.slot) == PASHKURE_WAITS)
+        withdraw(locks, key.slot, PASHKURE_INTERRUPTED);
+    else
+        interrupt_next(seat);
     seats_leave(locks);
     return PASHKURE_OK;
 }

@@ -12,14 +12,16 @@
  *   not cancelled in a call. A signal ends no sleep. What a transaction wrote before it gave a name back is seen by the one that owns the name
  *   next (it happens before). ThreadSanitizer is told so, name by name. helgrind and DRD know nothing of it, and report what is no race.
  *
- *   MEMORY. pashkure_locks_open takes all of it: that of pashkure_open, 16 bytes a bucket, 12 a name, and some 2,000 bytes a transaction. No other
- *   call takes any. A name of more than 63 bytes, a ninth name of a transaction, and two names of one bucket are the manager's. Of names that are
+ *   MEMORY. pashkure_locks_open takes all of it: that of pashkure_open, 16 bytes a bucket, 12 a name, and some 3,600 bytes a transaction, of which
+ *   1,600 are first touched by a deadlock. No other call takes any. A name of more than 63 bytes, a ninth name of a transaction, and two names of one bucket are the manager's. Of names that are
  *   not, config.buckets bounds how many can be owned at a time; of those that are, config.names. NAMES_FULL says that the manager has no room for
  *   the name that was asked for, or for one that another transaction owns and that had to come to the manager.
  *
- *   DEADLOCKS. The request that closes a cycle of waits is told so at once, and no other one is a victim. After DEADLOCK undo the work, call
- *   pashkure_locks_abort, pause for a random time about as long as a transaction takes, and begin anew. Transactions that all lock in one order,
- *   such as that of the bytes of names, have no deadlocks. */
+ *   DEADLOCKS. A request whose wait would close a cycle of waits is answered DEADLOCK at once, and no other one of the cycle is told. The transaction
+ *   does not wait, and goes on with what it owns. Give back what others wait for: undo the work and call pashkure_locks_abort, or undo what came
+ *   after a savepoint and unlock what was locked since. Pause for a random time about as long as a transaction takes before you ask again. Who
+ *   asks again at once is answered DEADLOCK again, and stops the whole cycle: each of the others waits, at the end, for this very transaction.
+ *   Transactions that all lock in one order, such as that of the bytes of names, have no deadlocks. */
 #ifndef PASHKURE_THREADS_H
 #define PASHKURE_THREADS_H
 
@@ -30,6 +32,14 @@ extern "C" {
 #endif
 
 typedef struct pashkure_locks pashkure_locks;
+
+/* A wait of a deadlock: who waits, who owns the name, and its bytes, which stay until the next request or the end of the transaction that was
+ * told. */
+typedef struct pashkure_wait {
+    pashkure_key key, holder;
+    const void *name;
+    size_t length;
+} pashkure_wait;
 
 /* One of several names, and the answer to it. */
 typedef struct pashkure_request {
@@ -52,9 +62,8 @@ pashkure_result pashkure_locks_close(pashkure_locks *locks);
 pashkure_result pashkure_locks_begin(pashkure_locks *locks, pashkure_key *key) PASHKURE_CHECKED;
 
 /* Locks a name, and sleeps until the transaction owns it, or the time is over: OK, HELD, DEADLOCK (at once). BUSY: no time was given, and another
- * one owns it. TIMED_OUT, INTERRUPTED: it waits no longer, keeps what it owns, and may go on. Refusals as of pashkure_lock.
- * It is never TIMED_OUT before the time is over by CLOCK_MONOTONIC. One that waits behind a victim sleeps on until that victim's
- * pashkure_locks_abort, and then gets OK if that gave it the name. */
+ * one owns it. TIMED_OUT, INTERRUPTED: it waits no longer. After each of these it keeps what it owns, and may go on. Refusals as of pashkure_lock.
+ * It is TIMED_OUT when the time is over by CLOCK_MONOTONIC and never before. */
 pashkure_result pashkure_locks_lock(pashkure_locks *locks, pashkure_key key, const void *name, size_t length, int64_t nanoseconds) PASHKURE_CHECKED;
 
 /* Locks names in the order given, all within the time: OK, it owns all of them. Else the answer to the first that it was not given; those before
@@ -70,26 +79,31 @@ typedef void pashkure_wake_call(void *context, pashkure_key key, pashkure_result
 pashkure_result pashkure_locks_ask(
     pashkure_locks *locks, pashkure_key key, const void *name, size_t length, pashkure_wake_call *wake, void *context) PASHKURE_CHECKED;
 
-/* Interrupts a transaction, mostly another thread's (a killed query, a shut-down): OK. NO_TRANSACTION. Its wait ends as INTERRUPTED, behind a
- * victim as late as a time-out. If it does not wait, or is given the name all the same, its next lock, lock_all or ask is INTERRUPTED, whatever it
- * asks for. It is told once, and never lost but by the transaction's end. It takes no name away. In a deadlock it changes nothing. */
+/* Interrupts a transaction, mostly another thread's (a killed query, a shut-down): OK. NO_TRANSACTION. Its wait ends as INTERRUPTED at once. If it
+ * does not wait, its next lock, lock_all or ask is INTERRUPTED, whatever it asks for. It is told once, and never lost but by the transaction's
+ * end. It takes no name away. */
 pashkure_result pashkure_locks_interrupt(pashkure_locks *locks, pashkure_key key);
 
 /* Gives one name back, to the one that has waited longest: OK. Refusals as of pashkure_unlock. */
 pashkure_result pashkure_locks_unlock(pashkure_locks *locks, pashkure_key key, const void *name, size_t length) PASHKURE_CHECKED;
 
-/* Ends the transaction, and gives back all that it owns: OK. NO_TRANSACTION, MUST_ABORT, WAITING. An end is no moment: names pass on one after
- * another, so that others may own some while the transaction still owns the rest. After every 32 names other threads have their turn. */
+/* Ends the transaction, and gives back all that it owns: OK. NO_TRANSACTION, WAITING. An end is no moment: names pass on one after
+ * another, so that others may own some while the transaction still owns the rest. After every 64 names other threads have their turn. */
 pashkure_result pashkure_locks_commit(pashkure_locks *locks, pashkure_key key) PASHKURE_CHECKED;
 
-/* The same, after a deadlock too: OK. Undo its work first: others own its names when this returns. NO_TRANSACTION; WAITING of one that waits:
- * interrupt it, and its own thread undoes and aborts. */
+/* The same. Undo its work first: others own its names when this returns. NO_TRANSACTION; WAITING of one that waits: interrupt it, and its own
+ * thread undoes and aborts. */
 pashkure_result pashkure_locks_abort(pashkure_locks *locks, pashkure_key key);
+
+/* What the last DEADLOCK of this transaction was about, noted in the moment of the answer: how many waits, which are written as far as there is
+ * room. The first one is the one that was refused, and each further one is that of the holder before it. At most 16, whose names have 1,024 bytes
+ * together: the cycle is whole if the last holder is this transaction. 0 if it was told of none, has ended, or is in a call. Needs no mutex. */
+size_t pashkure_locks_cycle(pashkure_locks *locks, pashkure_key key, pashkure_wait *waits, size_t room);
 
 /* ---- Reading one moment ---- */
 
-/* Takes the mutex, so that the four calls below see one moment of the manager: all waits, each deadlock whole, and each name that somebody asked
- * for while another one owned it. Until pashkure_locks_let_go by the same thread all other calls stand still that need the mutex; this thread
+/* Takes the mutex, so that the four calls below see one moment of the manager: all waits, and each name that somebody asked for while another one
+ * owned it. Until pashkure_locks_let_go by the same thread all other calls stand still that need the mutex; this thread
  * makes only these four. */
 void pashkure_locks_hold(pashkure_locks *locks);
 

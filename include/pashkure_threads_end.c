@@ -26,17 +26,14 @@ static pashkure_result unlock_at_desk(pashkure_locks *locks, struct seat *seat, 
 
 pashkure_result pashkure_locks_unlock(pashkure_locks *locks, pashkure_key key, const void *name, size_t length)
 {
-    pashkure_result refusal;
-    pashkure_result result = PASHKURE_MUST_ABORT;
-    struct seat *seat = take_seat_to(CALLING, locks, key, &refusal);
+    pashkure_result result;
+    struct seat *seat = take_seat_to(CALLING, locks, key, &result);
     if (seat == NULL)
-        return refusal;
-    if (!seat->is_victim) {
-        gives(locks, name, length);
-        result = pashkure_worker_give_back(&seat->worker, name, length);
-        if (result != PASHKURE_OK)
-            result = unlock_at_desk(locks, seat, name, length);
-    }
+        return result;
+    gives(locks, name, length);
+    result = pashkure_worker_give_back(&seat->worker, name, length);
+    if (result != PASHKURE_OK)
+        result = unlock_at_desk(locks, seat, name, length);
     leave_seat(seat, key);
     return result;
 }
@@ -109,22 +106,18 @@ static void unlock_portions(pashkure_locks *locks, struct seat *seat, uint32_t s
     }
 }
 
-/* Ends the transaction of a seat at the desk, and begins its next one there; nothing, if the desk knows nothing of it. One that is in a deadlock
- * gives all names back at once: the desk takes nothing else of it. */
+/* Ends the transaction of a seat at the desk, and begins its next one there; nothing, if the desk knows nothing of it. */
 static void end_at_desk(pashkure_locks *locks, struct seat *seat, uint32_t slot, bool commits)
 {
     pashkure_key next;
     if (pashkure_worker_give_back_all(&seat->worker) == PASHKURE_OK && !seat->is_known)
         return;
     seats_enter(locks);
-    if (!seat->is_victim)
-        unlock_portions(locks, seat, slot);
+    unlock_portions(locks, seat, slot);
     if (!commits || pashkure_desk_commit(&locks->desk, &seat->worker) != PASHKURE_OK)
         (void)pashkure_desk_abort(&locks->desk, &seat->worker);
     seats_tell(locks);
     (void)pashkure_desk_begin(&locks->desk, slot, &next);
-    if (!commits)
-        seats_withdraw_again(locks);
     seats_leave(locks);
 }
 
@@ -134,14 +127,9 @@ static pashkure_result end(pashkure_locks *locks, pashkure_key key, bool commits
     struct seat *seat = take_seat_to(ENDING, locks, key, &result);
     if (seat == NULL)
         return result;
-    if (commits && seat->is_victim) {
-        leave_seat(seat, key);
-        return PASHKURE_MUST_ABORT;
-    }
     gives_all(locks, seat);
     end_at_desk(locks, seat, key.slot, commits);
     seat->is_known = false;
-    seat->is_victim = false;
     count(commits ? &seat->committed : &seat->aborted);
     free_seat(locks, seat, key);
     return PASHKURE_OK;

@@ -139,12 +139,6 @@ void pashkure_locks_let_go(pashkure_locks *locks)
     pthread_mutex_unlock(&locks->mutex);
 }
 
-/* The key of the transaction that has a slot of the desk: there it has a generation of its own. */
-static pashkure_key key_of(const pashkure_locks *locks, uint32_t slot)
-{
-    return (pashkure_key){slot, generation_of(atomic_load_explicit(&locks->seats[slot].word, memory_order_relaxed))};
-}
-
 pashkure_result pashkure_locks_look(pashkure_locks *locks, uint32_t slot, pashkure_seen *seen)
 {
     pashkure_result result;
@@ -152,7 +146,7 @@ pashkure_result pashkure_locks_look(pashkure_locks *locks, uint32_t slot, pashku
         return PASHKURE_FREE;
     result = pashkure_desk_look(&locks->desk, slot, seen);
     seen->key = key_of(locks, slot);
-    if (result == PASHKURE_WAITS || result == PASHKURE_DEADLOCK)
+    if (result == PASHKURE_WAITS)
         seen->holder = key_of(locks, seen->holder.slot);
     return result;
 }
@@ -229,17 +223,18 @@ static uint32_t make_seats(pashkure_locks *locks)
     return made;
 }
 
-/* Sets the bits of all slots. They lie behind the seats, and APART from what others have there. */
+/* Sets the bits of all slots. They lie behind the seats and the cycles, and APART from what others have there. */
 static void mark_all(pashkure_locks *locks)
 {
-    locks->may_be_free = (_Atomic uint64_t *)&locks->seats[locks->slots];
+    locks->cycles = (struct cycle *)&locks->seats[locks->slots];
+    locks->may_be_free = (_Atomic uint64_t *)&locks->cycles[locks->slots];
     for (uint32_t slot = 0; slot < locks->slots; slot++)
         locks->may_be_free[slot / SLOTS_OF_WORD] |= (uint64_t)1 << slot % SLOTS_OF_WORD;
 }
 
 pashkure_result pashkure_locks_open(pashkure_locks **locks, const pashkure_config *config)
 {
-    const size_t words = ((size_t)config->transactions + SLOTS_OF_WORD - 1) / SLOTS_OF_WORD;
+    const size_t slots = config->transactions, words = (slots + SLOTS_OF_WORD - 1) / SLOTS_OF_WORD;
     pashkure_desk desk = PASHKURE_DESK_CLOSED;
     pashkure_locks *opened;
     uint32_t seats;
@@ -250,7 +245,7 @@ pashkure_result pashkure_locks_open(pashkure_locks **locks, const pashkure_confi
     *locks = NULL;
     if (result != PASHKURE_OK)
         return result;
-    opened = calloc(1, sizeof *opened + config->transactions * sizeof opened->seats[0] + words * sizeof opened->may_be_free[0] + APART);
+    opened = calloc(1, sizeof *opened + slots * (sizeof(struct seat) + sizeof(struct cycle)) + words * sizeof(uint64_t) + APART);
     if (opened == NULL || pthread_mutex_init(&opened->mutex, NULL) != 0) {
         free(opened);
         pashkure_desk_close(&desk);

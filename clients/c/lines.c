@@ -112,14 +112,13 @@ static char next_byte(connection *at)
     return at->is_open ? at->input[at->start] : '\n';
 }
 
-bool remote_read_cut(connection *at, char *word, size_t room)
+void remote_read_any(connection *at, char *word, size_t room)
 {
     size_t length = 0;
-    bool has_room = true;
     char byte = next_byte(at);
     while (byte != '\n' && (byte != ' ' || length == 0)) {
         if (byte != ' ' && length + 1 == room)
-            has_room = false;
+            remote_fail(at, PASHKURE_REMOTE_PROTOCOL);
         else if (byte != ' ')
             word[length++] = byte;
         if (at->is_open)
@@ -127,13 +126,6 @@ bool remote_read_cut(connection *at, char *word, size_t room)
         byte = next_byte(at);
     }
     word[length] = '\0';
-    return has_room;
-}
-
-void remote_read_any(connection *at, char *word, size_t room)
-{
-    if (!remote_read_cut(at, word, room))
-        remote_fail(at, PASHKURE_REMOTE_PROTOCOL);
 }
 
 void remote_read_word(connection *at, char *word, size_t room)
@@ -208,21 +200,27 @@ void remote_read_wait(connection *at, char *name, transaction *holder)
     *holder = remote_read_key(at);
 }
 
-void remote_read_cycle(connection *at, pashkure_remote_each_wait *each, void *context)
+/* Calls what the user gave for a wait of a deadlock. */
+static void tell_wait(connection *at, const pashkure_remote_wait_for *wait)
 {
-    pashkure_remote_wait_for wait;
+    if (at->each != NULL && at->is_open)
+        at->each(at->context, wait);
+}
+
+void remote_read_cycle(connection *at, transaction first, const char *name)
+{
+    pashkure_remote_wait_for wait = {.waiter = first, .holder = remote_read_key(at)};
     char word[WORD_BYTES];
-    transaction first = remote_read_key(at);
     bool is_last = false;
-    wait.waiter = first;
+    strcpy(wait.name, name);
+    tell_wait(at, &wait);
     while (!is_last && at->is_open) {
+        wait.waiter = wait.holder;
         remote_read_word(at, wait.name, sizeof wait.name);
         remote_read_any(at, word, sizeof word);
         is_last = word[0] == '\0' || strcmp(word, "..") == 0;
         wait.holder = word[0] == '\0' ? first : is_last ? NOBODY : remote_transaction_of(at, word);
-        if (each != NULL && at->is_open)
-            each(context, &wait);
-        wait.waiter = wait.holder;
+        tell_wait(at, &wait);
     }
     remote_read_end(at);
 }
@@ -234,7 +232,9 @@ result remote_read_news(connection *at, transaction *told)
     *told = NOBODY;
     remote_read_word(at, word, sizeof word);
     if (strcmp(word, "deadlock") == 0) {
-        remote_read_cycle(at, at->each, at->context);
+        transaction first = remote_read_key(at);
+        remote_read_word(at, name, sizeof name);
+        remote_read_cycle(at, first, name);
         at->deadlocks++;
         return PASHKURE_REMOTE_DEADLOCK;
     }

@@ -37,10 +37,7 @@ int64_t remote_reply_end(const connection *at);
 /* Waits for the first byte of a line, of which the rest is due from then on. False if none came until then. */
 bool remote_wait_for_line(connection *at, int64_t end);
 
-/* Reads the next word of the line. At the end of the line it is empty, and the newline is left. False: it was longer, and was cut. */
-bool remote_read_cut(connection *at, char *word, size_t room);
-
-/* The same, of a word that has to have room. */
+/* Reads the next word of the line, which has to have room. At the end of the line it is empty, and the newline is left. */
 void remote_read_any(connection *at, char *word, size_t room);
 
 /* Reads the next word of the line, which has to have one. */
@@ -63,8 +60,9 @@ transaction remote_read_key(connection *at);
 /* Reads what a transaction waits for, and who owns that. */
 void remote_read_wait(connection *at, char *name, transaction *holder);
 
-/* Reads a cycle of waits, which is the rest of a line, and calls each for every wait. */
-void remote_read_cycle(connection *at, pashkure_remote_each_wait *each, void *context);
+/* Reads the rest of a line that tells of a deadlock: the cycle behind its first wait, of this transaction for this name. Each wait is told to what
+ * pashkure_remote_on_deadlock was given. */
+void remote_read_cycle(connection *at, transaction first, const char *name);
 
 /* Reads the rest of a line whose first word is "*", which nobody asked for. OK or ABORTED, by which the wait of the transaction ended; or DEADLOCK,
  * which the operator is told. */

@@ -8,35 +8,27 @@
 #include <sys/un.h>
 #include <unistd.h>
 
-#define LONGEST_PAUSE 100
-
-static const struct verb BEGIN = {"begin", {{"begun", PASHKURE_REMOTE_OK, true}}};
+static const struct verb BEGIN = {"begin", {{"begun", PASHKURE_REMOTE_OK, KEY}}};
 static const struct verb LOCK = {
     "lock",
-    {{"granted", PASHKURE_REMOTE_OK, false}, {"held", PASHKURE_REMOTE_HELD, false}, {"waits", PASHKURE_REMOTE_WAITS, true},
-        {"deadlock", PASHKURE_REMOTE_DEADLOCK, true}},
+    {{"granted", PASHKURE_REMOTE_OK, NO_MORE}, {"held", PASHKURE_REMOTE_HELD, NO_MORE}, {"waits", PASHKURE_REMOTE_WAITS, KEY},
+        {"deadlock", PASHKURE_REMOTE_DEADLOCK, CYCLE}},
 };
 static const struct verb TRY = {
-    "try", {{"granted", PASHKURE_REMOTE_OK, false}, {"held", PASHKURE_REMOTE_HELD, false}, {"busy", PASHKURE_REMOTE_BUSY, true}}};
-static const struct verb UNLOCK = {"unlock", {{"unlocked", PASHKURE_REMOTE_OK, false}}};
-static const struct verb COMMIT = {"commit", {{"committed", PASHKURE_REMOTE_OK, false}}};
-static const struct verb ABORT = {"abort", {{"aborted", PASHKURE_REMOTE_OK, false}, {"later", PASHKURE_REMOTE_LATER, false}}};
-static const struct verb CANCEL = {"cancel", {{"cancelled", PASHKURE_REMOTE_OK, false}, {"carried", PASHKURE_REMOTE_CARRIED, false}}};
+    "try", {{"granted", PASHKURE_REMOTE_OK, NO_MORE}, {"held", PASHKURE_REMOTE_HELD, NO_MORE}, {"busy", PASHKURE_REMOTE_BUSY, KEY}}};
+static const struct verb UNLOCK = {"unlock", {{"unlocked", PASHKURE_REMOTE_OK, NO_MORE}}};
+static const struct verb COMMIT = {"commit", {{"committed", PASHKURE_REMOTE_OK, NO_MORE}}};
+static const struct verb ABORT = {"abort", {{"aborted", PASHKURE_REMOTE_OK, NO_MORE}}};
+static const struct verb CANCEL = {"cancel", {{"cancelled", PASHKURE_REMOTE_OK, NO_MORE}}};
 
 /* Makes a request of a transaction, for a name or without one. */
 static result ask(connection *at, const struct verb *verb, transaction of, const char *name)
 {
-    struct line line;
     transaction holder;
     result is_sent = remote_sendable(at, of);
     if (is_sent != PASHKURE_REMOTE_OK)
         return is_sent;
-    if (name != NULL && !remote_is_name(name))
-        return PASHKURE_REMOTE_BAD_NAME;
-    remote_begin_line(&line, verb->word, of);
-    if (name != NULL)
-        remote_add_word(&line, name);
-    return remote_call(at, verb, &line, &holder);
+    return name == NULL || remote_is_name(name) ? remote_call(at, verb, of, name, &holder) : PASHKURE_REMOTE_BAD_NAME;
 }
 
 /* Asks the service what became of a wait: WAITING; OK, it was granted its name; or ABORTED. */
@@ -68,19 +60,16 @@ static result await(connection *at, transaction of, int64_t end)
     return remote_done(at, news);
 }
 
-/* Takes a wait back as soon as that is allowed. A grant may come first. */
+/* Takes a wait back: TIMED_OUT. If it had ended before: OK, it was granted its name; or ABORTED. */
 static result take_back(connection *at, transaction of)
 {
-    unsigned pause = 1;
-    result waited = PASHKURE_REMOTE_TIMED_OUT;
-    while (waited == PASHKURE_REMOTE_TIMED_OUT) {
-        result told = pashkure_remote_cancel(at, of);
-        if (told != PASHKURE_REMOTE_CARRIED)
-            return told == PASHKURE_REMOTE_OK ? PASHKURE_REMOTE_TIMED_OUT : told == PASHKURE_REMOTE_NOT_WAITING ? PASHKURE_REMOTE_OK : told;
-        waited = await(at, of, remote_after(pause));
-        pause = pause * 2 < LONGEST_PAUSE ? pause * 2 : LONGEST_PAUSE;
+    result told = pashkure_remote_cancel(at, of);
+    switch (told) {
+    case PASHKURE_REMOTE_OK: return PASHKURE_REMOTE_TIMED_OUT;
+    case PASHKURE_REMOTE_NOT_WAITING: return PASHKURE_REMOTE_OK;
+    case PASHKURE_REMOTE_NO_TRANSACTION: return PASHKURE_REMOTE_ABORTED;
+    default: return told;
     }
-    return waited;
 }
 
 /* Waits for a grant until then, and takes the wait back after that. */
@@ -101,6 +90,12 @@ void pashkure_remote_close(connection *at)
 void pashkure_remote_reply_within(connection *at, unsigned milliseconds)
 {
     at->reply_milliseconds = milliseconds > 0 ? milliseconds : 1;
+}
+
+void pashkure_remote_on_deadlock(connection *at, pashkure_remote_each_wait *each, void *context)
+{
+    at->each = each;
+    at->context = context;
 }
 
 /* Connects a socket. */
@@ -146,10 +141,8 @@ result pashkure_remote_open(connection *at, const char *path)
 
 result pashkure_remote_begin(connection *at, transaction *begun)
 {
-    struct line line;
     *begun = NOBODY;
-    remote_begin_line(&line, BEGIN.word, NOBODY);
-    return remote_call(at, &BEGIN, &line, begun);
+    return remote_call(at, &BEGIN, NOBODY, NULL, begun);
 }
 
 result pashkure_remote_ask(connection *at, transaction of, const char *name)
@@ -201,9 +194,7 @@ result pashkure_remote_wait(connection *at, transaction of)
 {
     pashkure_remote_status status;
     result told = pashkure_remote_status_of(at, of, &status);
-    if (told != PASHKURE_REMOTE_OK || status.mode == PASHKURE_REMOTE_IS_ACTIVE)
-        return told;
-    return status.mode == PASHKURE_REMOTE_IS_DEADLOCKED ? PASHKURE_REMOTE_MUST_ABORT : await(at, of, FOREVER);
+    return told == PASHKURE_REMOTE_OK && status.mode == PASHKURE_REMOTE_IS_WAITING ? await(at, of, FOREVER) : told;
 }
 
 /* ---- Several names ---- */
@@ -222,7 +213,7 @@ static result lock_rest(connection *at, transaction of, struct names *names, res
             remote_begin_line(&line, LOCK.word, of);
             asked = remote_add_names(&line, names);
             remote_request(at, &line, word);
-            last = remote_read_asked(at, word, asked, asked > 1, names);
+            last = remote_read_asked(at, of, word, asked, asked > 1, names);
         }
     }
     return last;
@@ -258,7 +249,7 @@ static result begin_some(connection *at, transaction *begun, struct names *names
     *begun = remote_read_key(at);
     remote_read_any(at, word, sizeof word);
     if (word[0] != '\0' && asked > 0)
-        return remote_read_asked(at, word, asked, true, names);
+        return remote_read_asked(at, *begun, word, asked, true, names);
     names->place += asked;
     remote_read_end(at);
     return remote_done(at, PASHKURE_REMOTE_OK);

@@ -1,8 +1,8 @@
 /* pashkure_remote.h - exclusive locks on names, for transactions, in a lock service on its Unix socket.            C11 and POSIX; C++ may include it.
  *
- * The service answers each request at once: the transaction owns the name, or it waits, or its request closed a cycle of waits (a deadlock, which
- * only the requester is ever told of). When a connection ends, also because its program is killed, the service aborts each transaction that was
- * begun on it.
+ * The service answers each request at once: the transaction owns the name, or it waits, or its request would have closed a cycle of waits and was
+ * refused (a deadlock, which only the requester is ever told of). When a connection ends, also because its program is killed, the service aborts
+ * each transaction that was begun on it.
  *
  *   WHAT THE CALLER OWES, and nothing tests.
  *   1. One thread at a time uses a connection. Threads that lock at the same time have a connection each; these share nothing.
@@ -35,17 +35,14 @@ typedef enum pashkure_remote_result {
     PASHKURE_REMOTE_OK = 0,        /* done. Of a request: the transaction owns the name from now on */
     PASHKURE_REMOTE_HELD = 1,      /* the transaction owned the name before; it is still owned once */
     PASHKURE_REMOTE_WAITS = 2,     /* the transaction waits; only pashkure_remote_ask says so */
-    PASHKURE_REMOTE_DEADLOCK = 3,  /* the request closed a cycle of waits: undo the transaction's work, then abort it, its one possible call */
+    PASHKURE_REMOTE_DEADLOCK = 3,  /* the request would have closed a cycle of waits, and was refused: see below */
     PASHKURE_REMOTE_BUSY = 4,      /* another one owns the name, and nothing was changed */
-    PASHKURE_REMOTE_LATER = 5,     /* of abort: it ends as soon as its wait does, and nothing more has to be done */
-    PASHKURE_REMOTE_CARRIED = 6,   /* of cancel: it waits behind a deadlock whose victim has yet to abort; try again later */
     PASHKURE_REMOTE_FREE = 7,      /* nobody owns the name */
-    PASHKURE_REMOTE_ABORTED = 8,   /* its wait has ended, since it has: its abort was due, or the operator aborted it */
+    PASHKURE_REMOTE_ABORTED = 8,   /* its wait has ended, since it has: the operator aborted it */
     PASHKURE_REMOTE_TIMED_OUT = 9, /* its time is up. It waits no longer, and keeps what it owns */
 
     /* Refusals: the call has changed nothing. */
     PASHKURE_REMOTE_NO_TRANSACTION = 16,    /* it ended, was never begun, or is another connection's. Nothing is sent for one of before an opening */
-    PASHKURE_REMOTE_MUST_ABORT = 17,        /* it was told of a deadlock */
     PASHKURE_REMOTE_WAITING = 18,           /* it waits */
     PASHKURE_REMOTE_NOT_WAITING = 19,       /* it does not wait: what it asked for it was given */
     PASHKURE_REMOTE_NAME_TOO_LONG = 21,     /* the name is longer than the service was started for */
@@ -63,7 +60,6 @@ typedef enum pashkure_remote_result {
     PASHKURE_REMOTE_BAD_NAME = 67,            /* it is empty, longer than 1,024 bytes, or has a space or a control character. Nothing was sent */
     PASHKURE_REMOTE_OPERATOR = 80,            /* only the operator's socket takes the request; or it does not take it */
     PASHKURE_REMOTE_NO_EPOCH = 81,            /* the service has no epoch, and so no fences */
-    PASHKURE_REMOTE_NOT_DEADLOCKED = 82,      /* it was told of no deadlock */
     PASHKURE_REMOTE_TOO_MANY = 83,            /* it owns more names than a reply has */
     PASHKURE_REMOTE_CONNECTIONS_FULL = 84,    /* the service has as many clients as it can */
     PASHKURE_REMOTE_OTHER_PROTOCOL = 85,      /* of open: the service speaks another protocol. Restart it first, from this client's version */
@@ -71,6 +67,10 @@ typedef enum pashkure_remote_result {
 } pashkure_remote_result;
 
 #define PASHKURE_REMOTE_OWNS(result) ((result) <= PASHKURE_REMOTE_HELD) /* a request: the transaction owns the name now */
+
+/* After DEADLOCK the transaction waits for nothing, keeps what it owns, and may go on. But each transaction of the cycle waits, directly or over
+ * others, for this one. So give back what they wait for, as back to a savepoint, or abort. One that asks again before that is told DEADLOCK again,
+ * and all of them wait on. */
 
 /* What a result means, in English. Never NULL. */
 const char *pashkure_remote_message(pashkure_remote_result result);
@@ -146,8 +146,7 @@ pashkure_remote_result pashkure_remote_begin_with(pashkure_remote_connection *co
  * ever: use pashkure_remote_ask there. */
 pashkure_remote_result pashkure_remote_lock(pashkure_remote_connection *connection, pashkure_remote_transaction transaction, const char *name);
 
-/* As pashkure_remote_lock, and TIMED_OUT if the name was not granted in time. Behind a deadlock whose victim has yet to abort the wait cannot be
- * taken back: the call asks again after pauses of 1 to 100 milliseconds, and the name may be granted meanwhile. */
+/* As pashkure_remote_lock, and TIMED_OUT if the name was not granted in time. */
 pashkure_remote_result pashkure_remote_lock_for(
     pashkure_remote_connection *connection, pashkure_remote_transaction transaction, const char *name, unsigned milliseconds);
 
@@ -165,15 +164,20 @@ pashkure_remote_result pashkure_remote_unlock(pashkure_remote_connection *connec
 /* Ends the transaction, and gives back all that it owns. */
 pashkure_remote_result pashkure_remote_commit(pashkure_remote_connection *connection, pashkure_remote_transaction transaction);
 
-/* The same, of a transaction in any state: OK, or LATER of one that waits. The operator may abort each transaction. */
+/* The same, also of a transaction that waits. The operator may abort each transaction. */
 pashkure_remote_result pashkure_remote_abort(pashkure_remote_connection *connection, pashkure_remote_transaction transaction);
 
 /* For several transactions of one thread. pashkure_remote_ask asks for a name and does not wait: OK, HELD, WAITS or DEADLOCK.
  * pashkure_remote_wait waits until the transaction owns what it asked for: a grant that came during other calls is not lost.
- * pashkure_remote_cancel takes the wait back: OK, CARRIED, or NOT_WAITING if the name was granted before. */
+ * pashkure_remote_cancel takes the wait back: OK, or NOT_WAITING if the name was granted before. */
 pashkure_remote_result pashkure_remote_ask(pashkure_remote_connection *connection, pashkure_remote_transaction transaction, const char *name);
 pashkure_remote_result pashkure_remote_wait(pashkure_remote_connection *connection, pashkure_remote_transaction transaction);
 pashkure_remote_result pashkure_remote_cancel(pashkure_remote_connection *connection, pashkure_remote_transaction transaction);
+
+/* Says what is called for each wait of a deadlock, from then on by any call on this connection, as it reads; NULL: nothing. A call that returns
+ * DEADLOCK has told the waits of its cycle before: first the one that was refused, and at most 16 others. Each holder is the next waiter, and the
+ * last one is the first waiter again, or nobody if there are more. At the operator's socket the service tells each deadlock so, at any time. */
+void pashkure_remote_on_deadlock(pashkure_remote_connection *connection, pashkure_remote_each_wait *each, void *context);
 
 /* ---- Fences: numbers that rise, for a store that is written to under locks, and refuses a fence below one that it saw ---- */
 
@@ -190,12 +194,11 @@ void pashkure_remote_fence_text(pashkure_remote_fence fence, char text[PASHKURE_
 
 /* ---- Reading ---- */
 
-typedef enum pashkure_remote_mode { PASHKURE_REMOTE_IS_ACTIVE, PASHKURE_REMOTE_IS_WAITING, PASHKURE_REMOTE_IS_DEADLOCKED } pashkure_remote_mode;
+typedef enum pashkure_remote_mode { PASHKURE_REMOTE_IS_ACTIVE, PASHKURE_REMOTE_IS_WAITING } pashkure_remote_mode;
 
 /* What a transaction does. Name and holder are those of its wait, and empty if it is active. */
 typedef struct pashkure_remote_status {
     pashkure_remote_mode mode;
-    bool is_aborting; /* it is aborted as soon as its wait ends */
     char name[PASHKURE_REMOTE_NAME_BYTES + 1];
     pashkure_remote_transaction holder;
 } pashkure_remote_status;
@@ -224,11 +227,6 @@ pashkure_remote_result pashkure_remote_status_of(
 pashkure_remote_result pashkure_remote_holds(
     pashkure_remote_connection *connection, pashkure_remote_transaction transaction, pashkure_remote_each_name *each, void *context);
 
-/* Of a transaction that was told of a deadlock, calls each for every wait on its cycle, its own first; each holder is the next waiter, and the last
- * one is the first waiter again. Of a cycle of more than 16 it gives 16, and the last holder is nobody. */
-pashkure_remote_result pashkure_remote_cycle(
-    pashkure_remote_connection *connection, pashkure_remote_transaction transaction, pashkure_remote_each_wait *each, void *context);
-
 pashkure_remote_result pashkure_remote_hello(pashkure_remote_connection *connection, pashkure_remote_service *service);
 pashkure_remote_result pashkure_remote_totals(pashkure_remote_connection *connection, pashkure_remote_counts *counts);
 
@@ -236,7 +234,7 @@ pashkure_remote_result pashkure_remote_totals(pashkure_remote_connection *connec
 
 typedef struct pashkure_remote_live {
     pashkure_remote_transaction transaction;
-    uint32_t connection; /* the number of its client; 0: it belongs to nobody, and ends as soon as its wait does */
+    uint32_t connection; /* the number of its client */
     pashkure_remote_status status;
 } pashkure_remote_live;
 
@@ -248,11 +246,7 @@ pashkure_remote_result pashkure_remote_graph(pashkure_remote_connection *connect
 
 pashkure_remote_result pashkure_remote_counts_of(pashkure_remote_connection *connection, pashkure_remote_counts *counts);
 
-/* Says what is called for each deadlock that the service tells of, as by pashkure_remote_cycle: from then on any call on this connection may call
- * it, as it reads. NULL: nothing. */
-void pashkure_remote_on_deadlock(pashkure_remote_connection *connection, pashkure_remote_each_wait *each, void *context);
-
-/* Waits until the service tells of a deadlock: OK, each was called; or TIMED_OUT. */
+/* Waits until the service tells of a deadlock: OK, what pashkure_remote_on_deadlock was given was called; or TIMED_OUT. */
 pashkure_remote_result pashkure_remote_listen(pashkure_remote_connection *connection, unsigned milliseconds);
 
 #ifdef __cplusplus

@@ -7,17 +7,12 @@
 
 #define PROTOCOL_NUMBER 2
 
-static const struct verb OWNER = {"owner", {{"owner", PASHKURE_REMOTE_OK, true}, {"free", PASHKURE_REMOTE_FREE, false}}};
+static const struct verb OWNER = {"owner", {{"owner", PASHKURE_REMOTE_OK, KEY}, {"free", PASHKURE_REMOTE_FREE, NO_MORE}}};
 
 result pashkure_remote_owner(connection *at, const char *name, transaction *owner)
 {
-    struct line line;
     *owner = NOBODY;
-    if (!remote_is_name(name))
-        return remote_done(at, PASHKURE_REMOTE_BAD_NAME);
-    remote_begin_line(&line, OWNER.word, NOBODY);
-    remote_add_word(&line, name);
-    return remote_call(at, &OWNER, &line, owner);
+    return remote_is_name(name) ? remote_call(at, &OWNER, NOBODY, name, owner) : remote_done(at, PASHKURE_REMOTE_BAD_NAME);
 }
 
 result pashkure_remote_status_of(connection *at, transaction of, pashkure_remote_status *status)
@@ -47,16 +42,6 @@ result pashkure_remote_holds(connection *at, transaction of, pashkure_remote_eac
         remote_read_any(at, name, sizeof name);
     }
     return remote_end_reply(at);
-}
-
-result pashkure_remote_cycle(connection *at, transaction of, pashkure_remote_each_wait *each, void *context)
-{
-    result told = remote_sendable(at, of);
-    if (told == PASHKURE_REMOTE_OK)
-        told = remote_read_reply(at, "cycle", of, NULL);
-    if (told == PASHKURE_REMOTE_OK)
-        remote_read_cycle(at, each, context);
-    return remote_done(at, told);
 }
 
 result pashkure_remote_fence_of(connection *at, transaction of, const char *name, pashkure_remote_fence *fence)
@@ -113,13 +98,8 @@ result pashkure_remote_list(connection *at, pashkure_remote_each_live *each, voi
     uint64_t left = remote_read_length(at, "list", &told);
     for (; left > 0 && at->is_open; left--) {
         char word[WORD_BYTES];
-        const char *text = word;
-        uint64_t number = 0;
         pashkure_remote_live live = {.transaction = remote_read_item(at)};
-        remote_read_word(at, word, sizeof word);
-        if (strcmp(word, "-") != 0 && (!remote_take_number(&text, UINT32_MAX, &number) || *text != '\0'))
-            remote_fail(at, PASHKURE_REMOTE_PROTOCOL);
-        live.connection = (uint32_t)number;
+        live.connection = (uint32_t)remote_read_number(at, UINT32_MAX);
         remote_read_word(at, word, sizeof word);
         if (!remote_read_state(at, word, true, &live.status))
             remote_fail(at, PASHKURE_REMOTE_PROTOCOL);
@@ -141,12 +121,6 @@ result pashkure_remote_graph(connection *at, pashkure_remote_each_wait *each, vo
             each(context, &wait);
     }
     return remote_done(at, told);
-}
-
-void pashkure_remote_on_deadlock(connection *at, pashkure_remote_each_wait *each, void *context)
-{
-    at->each = each;
-    at->context = context;
 }
 
 result pashkure_remote_listen(connection *at, unsigned milliseconds)

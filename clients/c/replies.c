@@ -10,15 +10,12 @@ static const struct {
     {PASHKURE_REMOTE_OK, "done", NULL},
     {PASHKURE_REMOTE_HELD, "the transaction owned the name before", NULL},
     {PASHKURE_REMOTE_WAITS, "the transaction waits for the name", NULL},
-    {PASHKURE_REMOTE_DEADLOCK, "the request closed a cycle of waits; the transaction is to be aborted", NULL},
+    {PASHKURE_REMOTE_DEADLOCK, "the request would have closed a cycle of waits, and was refused", NULL},
     {PASHKURE_REMOTE_BUSY, "another transaction owns the name", NULL},
-    {PASHKURE_REMOTE_LATER, "the transaction is aborted as soon as its wait ends", NULL},
-    {PASHKURE_REMOTE_CARRIED, "the wait cannot be taken back now", NULL},
     {PASHKURE_REMOTE_FREE, "nobody owns the name", NULL},
     {PASHKURE_REMOTE_ABORTED, "the transaction was aborted while it waited", NULL},
     {PASHKURE_REMOTE_TIMED_OUT, "the name was not granted in time", NULL},
     {PASHKURE_REMOTE_NO_TRANSACTION, "the transaction has ended, or was never begun", "no-transaction"},
-    {PASHKURE_REMOTE_MUST_ABORT, "the transaction is in a deadlock and is to be aborted", "must-abort"},
     {PASHKURE_REMOTE_WAITING, "the transaction waits", "waiting"},
     {PASHKURE_REMOTE_NOT_WAITING, "the transaction does not wait", "not-waiting"},
     {PASHKURE_REMOTE_NAME_TOO_LONG, "the name is longer than the service was started for", "name-too-long"},
@@ -35,7 +32,6 @@ static const struct {
     {PASHKURE_REMOTE_BAD_NAME, "the name is empty, too long, or has a space or a control character", NULL},
     {PASHKURE_REMOTE_OPERATOR, "the request is for the operator's socket, or not for it", "operator"},
     {PASHKURE_REMOTE_NO_EPOCH, "the service has no epoch", "no-epoch"},
-    {PASHKURE_REMOTE_NOT_DEADLOCKED, "the transaction was told of no deadlock", "not-deadlocked"},
     {PASHKURE_REMOTE_TOO_MANY, "the transaction owns more names than a reply has", "too-many"},
     {PASHKURE_REMOTE_CONNECTIONS_FULL, "the service has as many clients as it can", "connections-full"},
     {PASHKURE_REMOTE_OTHER_PROTOCOL, "the service is of another version than this client: restart the service first, from the client's version",
@@ -82,16 +78,30 @@ result remote_read_refusal(connection *at, char *word)
     return read_reason(at, word);
 }
 
-result remote_call(connection *at, const struct verb *verb, struct line *line, transaction *other)
+/* Sends a request of a transaction unless it is nobody, and of a name unless it is NULL, and reads the first word of its reply. */
+static void request(connection *at, const char *verb, transaction of, const char *name, char *word)
+{
+    struct line line;
+    remote_begin_line(&line, verb, of);
+    if (name != NULL)
+        remote_add_word(&line, name);
+    remote_request(at, &line, word);
+}
+
+result remote_call(connection *at, const struct verb *verb, transaction of, const char *name, transaction *other)
 {
     char word[WORD_BYTES];
     const struct answer *answer = verb->answers;
-    remote_request(at, line, word);
+    request(at, verb->word, of, name, word);
     while (answer->word != NULL && strcmp(answer->word, word) != 0)
         answer++;
     if (answer->word == NULL)
         return remote_read_refusal(at, word);
-    if (answer->has_key)
+    if (answer->rest == CYCLE) {
+        remote_read_cycle(at, of, name);
+        return remote_done(at, answer->answer);
+    }
+    if (answer->rest == KEY)
         *other = remote_read_key(at);
     remote_read_end(at);
     return remote_done(at, answer->answer);
@@ -99,12 +109,8 @@ result remote_call(connection *at, const struct verb *verb, struct line *line, t
 
 result remote_read_reply(connection *at, const char *verb, transaction of, const char *name)
 {
-    struct line line;
     char word[WORD_BYTES];
-    remote_begin_line(&line, verb, of);
-    if (name != NULL)
-        remote_add_word(&line, name);
-    remote_request(at, &line, word);
+    request(at, verb, of, name, word);
     return strcmp(word, verb) == 0 ? remote_done(at, PASHKURE_REMOTE_OK) : remote_read_refusal(at, word);
 }
 
@@ -116,20 +122,12 @@ result remote_end_reply(connection *at)
 
 bool remote_read_state(connection *at, char *word, bool may_grow, pashkure_remote_status *status)
 {
-    *status = (pashkure_remote_status){.mode = PASHKURE_REMOTE_IS_ACTIVE};
-    if (strcmp(word, "waiting") == 0)
-        status->mode = PASHKURE_REMOTE_IS_WAITING;
-    else if (strcmp(word, "deadlock") == 0)
-        status->mode = PASHKURE_REMOTE_IS_DEADLOCKED;
-    else if (strcmp(word, "active") != 0)
+    bool is_waiting = strcmp(word, "waiting") == 0;
+    *status = (pashkure_remote_status){.mode = is_waiting ? PASHKURE_REMOTE_IS_WAITING : PASHKURE_REMOTE_IS_ACTIVE};
+    if (!is_waiting && strcmp(word, "active") != 0)
         return false;
-    if (status->mode != PASHKURE_REMOTE_IS_ACTIVE) {
+    if (is_waiting)
         remote_read_wait(at, status->name, &status->holder);
-        remote_read_cut(at, word, WORD_BYTES);
-        status->is_aborting = strcmp(word, "aborting") == 0;
-        if (word[0] != '\0' && !status->is_aborting && !may_grow)
-            remote_fail(at, PASHKURE_REMOTE_PROTOCOL);
-    }
     (may_grow ? remote_read_rest : remote_read_end)(at);
     return true;
 }
@@ -184,7 +182,7 @@ size_t remote_add_names(struct line *line, const struct names *names)
     return added;
 }
 
-result remote_read_asked(connection *at, char *word, size_t asked, bool has_place, struct names *names)
+result remote_read_asked(connection *at, transaction of, char *word, size_t asked, bool has_place, struct names *names)
 {
     uint64_t place = 0;
     const char *text = word;
@@ -199,11 +197,15 @@ result remote_read_asked(connection *at, char *word, size_t asked, bool has_plac
         if (has_place && remote_take_number(&text, asked - 1, &place) && *text == '\0')
             remote_read_word(at, word, WORD_BYTES);
         answer = read_reason(at, word);
-    } else if (strcmp(word, "waits") == 0 || strcmp(word, "deadlock") == 0) {
-        answer = word[0] == 'w' ? PASHKURE_REMOTE_WAITS : PASHKURE_REMOTE_DEADLOCK;
+    } else if (strcmp(word, "waits") == 0) {
+        answer = PASHKURE_REMOTE_WAITS;
         place = has_place ? remote_read_number(at, asked - 1) : 0;
         remote_read_key(at);
         remote_read_end(at);
+    } else if (strcmp(word, "deadlock") == 0) {
+        answer = PASHKURE_REMOTE_DEADLOCK;
+        place = has_place ? remote_read_number(at, asked - 1) : 0;
+        remote_read_cycle(at, of, names->names[names->place + place]);
     } else {
         remote_fail(at, PASHKURE_REMOTE_PROTOCOL);
     }

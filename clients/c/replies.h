@@ -4,11 +4,11 @@
 
 #include "lines.h"
 
-/* The first word of a reply. */
+/* The first word of a reply, and what stands behind it. */
 struct answer {
     const char *word;
     result answer;
-    bool has_key; /* a key stands behind the word */
+    enum { NO_MORE, KEY, CYCLE } rest;
 };
 
 /* A request, and its replies that are no refusals. */
@@ -29,8 +29,9 @@ void remote_request(connection *at, struct line *line, char *word);
 /* Reads the rest of a reply that has to be a refusal. */
 result remote_read_refusal(connection *at, char *word);
 
-/* Makes a request that has one of its verb's replies, with a key or without. */
-result remote_call(connection *at, const struct verb *verb, struct line *line, transaction *other);
+/* Makes a request that has one of its verb's replies: of a transaction unless it is nobody, and of a name unless it is NULL. Gives the key of the
+ * reply, if it has one. */
+result remote_call(connection *at, const struct verb *verb, transaction of, const char *name, transaction *other);
 
 /* Begins a call that reads: sends a verb, and a transaction unless it is nobody, and a name unless it is NULL. The reply has to begin with the verb;
  * otherwise it is refused. */
@@ -58,9 +59,9 @@ size_t remote_first_bad(const char *const *names, size_t count);
 /* Puts as many of the names behind a line as it has room for. Returns how many these are. */
 size_t remote_add_names(struct line *line, const struct names *names);
 
-/* Reads the answer to a request for several names, of which this is the first word, and goes on to the name that it stopped at. Before the rest a
- * place stands: the number of such names from the first that was asked for; but not before a refusal that is about none of them. */
-result remote_read_asked(connection *at, char *word, size_t asked, bool has_place, struct names *names);
+/* Reads the answer to a request of a transaction for several names, of which this is the first word, and goes on to the name that it stopped at.
+ * Before the rest a place stands: the number of such names from the first that was asked for; but not before a refusal that is about none of them. */
+result remote_read_asked(connection *at, transaction of, char *word, size_t asked, bool has_place, struct names *names);
 
 /* Why a request of a transaction is not sent: of one of another opening the service may know the key as another one's. Otherwise OK. */
 result remote_sendable(const connection *at, transaction of);

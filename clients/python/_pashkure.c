@@ -4,14 +4,15 @@
 #include <Python.h>
 #include <pashkure.h>
 
-#define NOTHING UINT32_MAX
+/* How many waits of a cycle are told behind the one that was refused. */
+#define LONGEST_PATH 16
 
 /* A transaction, from its begin on: what its thread or task is to be told. */
 typedef struct Seat {
     PyObject_HEAD PyObject *news; /* is called when there is something to be told */
     pashkure_key key;
-    uint32_t over; /* how its last wait ended: PASHKURE_OK or PASHKURE_ABORTED; or NOTHING */
-    bool is_due;   /* news is to be called */
+    bool is_granted; /* its last wait has ended by a grant */
+    bool is_due;     /* news is to be called */
     struct Seat *next_due;
 } Seat;
 
@@ -46,7 +47,6 @@ static PyObject *seat_new(PyTypeObject *type, PyObject *words, PyObject *named)
     if (seat == NULL)
         return NULL;
     seat->news = kept(news);
-    seat->over = NOTHING;
     return (PyObject *)seat;
 }
 
@@ -78,30 +78,13 @@ static PyObject *seat_slot(PyObject *self, void *unused)
     return (void)unused, PyLong_FromUnsignedLong(((Seat *)self)->key.slot);
 }
 
-/* How its last wait ended: the number of a result, or None. */
-static PyObject *seat_told(PyObject *self, PyObject *unused)
+/* Whether its last wait has ended by a grant. */
+static PyObject *seat_is_granted(PyObject *self, PyObject *unused)
 {
-    const uint32_t over = ((Seat *)self)->over;
-    (void)unused;
-    if (over == NOTHING)
-        Py_RETURN_NONE;
-    return PyLong_FromUnsignedLong(over);
+    return (void)unused, PyBool_FromLong(((Seat *)self)->is_granted);
 }
 
-/* The transaction of the seat has ended, if the manager says so: then it is not kept any more. */
-static void forget_if_over(Manager *manager, Seat *seat)
-{
-    const uint32_t slot = seat->key.slot;
-    pashkure_seen seen = {{0, 0}, {0, 0}, 0, 0};
-    if (manager->seats[slot] != seat)
-        return;
-    if (pashkure_look(&manager->core, slot, &seen) <= PASHKURE_DEADLOCK && seen.key.generation == seat->key.generation)
-        return;
-    manager->seats[slot] = NULL;
-    Py_DECREF(seat);
-}
-
-/* Notes how the waits ended that the last call ended. */
+/* Notes the waits that the last call ended by a grant. */
 static void note(Manager *manager)
 {
     pashkure_wake woken;
@@ -109,7 +92,7 @@ static void note(Manager *manager)
         Seat *seat = manager->seats[woken.key.slot];
         if (seat == NULL)
             continue;
-        seat->over = woken.result;
+        seat->is_granted = true;
         if (seat->is_due)
             continue;
         seat->is_due = true;
@@ -131,7 +114,6 @@ static void tell(Manager *manager)
         PyObject *told;
         manager->first_due = seat->next_due;
         seat->is_due = false;
-        forget_if_over(manager, seat);
         told = seat->news == NULL ? kept(Py_None) : PyObject_CallObject(seat->news, NULL);
         if (told == NULL && PyErr_ExceptionMatches(PyExc_RuntimeError))
             PyErr_Clear(); /* the lock was released before */
@@ -203,34 +185,72 @@ static PyObject *manager_begin(PyObject *self, PyObject *words)
     if (!PyArg_ParseTuple(words, "O!", &seat_type, &seat))
         return NULL;
     result = pashkure_begin(&manager->core, &seat->key);
-    if (result == PASHKURE_OK) {
-        Seat *before = manager->seats[seat->key.slot]; /* none, or one whose end has yet to be told */
+    if (result == PASHKURE_OK)
         manager->seats[seat->key.slot] = kept(seat);
-        Py_XDECREF(before);
-    }
     return PyLong_FromLong(result);
+}
+
+/* The name of a number as bytes. NULL without an exception: nobody owns it. */
+static PyObject *name_of(const Manager *manager, uint32_t number, pashkure_key *owner)
+{
+    char bytes[1024];
+    size_t length = 0;
+    if (pashkure_name(&manager->core, number, bytes, sizeof bytes, &length, owner) != PASHKURE_OK)
+        return NULL;
+    return PyBytes_FromStringAndSize(bytes, (Py_ssize_t)length);
+}
+
+/* Adds a new object to a list, NULL if it could not be made. */
+static bool adds(PyObject *list, PyObject *item)
+{
+    const bool is_added = item != NULL && PyList_Append(list, item) == 0;
+    Py_XDECREF(item);
+    return is_added;
+}
+
+/* Adds the waits of the path from one transaction to another one: the key of each that waits and the name that it waits for, and ".." if there are
+ * more than are told. */
+static bool adds_path(const Manager *manager, PyObject *list, pashkure_key from, pashkure_key to)
+{
+    pashkure_key owner;
+    pashkure_seen seen = {{0, 0}, {0, 0}, 0};
+    bool is_over = false;
+    for (int count = 0; !is_over && count < LONGEST_PATH; count++) {
+        if (pashkure_look(&manager->core, from.slot, &seen) != PASHKURE_WAITS)
+            return true;
+        if (!adds(list, text_of(from)) || !adds(list, name_of(manager, seen.number, &owner)))
+            return false;
+        from = seen.holder;
+        is_over = from.slot == to.slot && from.generation == to.generation;
+    }
+    return is_over || adds(list, PyBytes_FromString(".."));
 }
 
 typedef pashkure_result request(pashkure *locks, pashkure_key key, const void *name, size_t length);
 
-/* The result of a request, and who owns the name if that is another one. */
+/* The result of a request, and who owns the name if that is another one. After a deadlock also the rest of its cycle. The list is made before the
+ * call, since the collector of garbage may run Python then. */
 static PyObject *requested(PyObject *self, PyObject *words, request *call)
 {
-    pashkure *core = &((Manager *)self)->core;
+    Manager *manager = (Manager *)self;
     const char *name;
     Py_ssize_t length;
     Seat *seat;
     pashkure_key holder;
     pashkure_result result;
-    if (!PyArg_ParseTuple(words, "O!y#", &seat_type, &seat, &name, &length))
+    PyObject *told;
+    bool is_told;
+    if (!PyArg_ParseTuple(words, "O!y#", &seat_type, &seat, &name, &length) || (told = PyList_New(0)) == NULL)
         return NULL;
-    seat->over = NOTHING;
-    result = call(core, seat->key, name, (size_t)length);
-    if (result != PASHKURE_WAITS && result != PASHKURE_DEADLOCK && result != PASHKURE_BUSY)
-        return Py_BuildValue("iO", (int)result, Py_None);
-    if (pashkure_owner(core, name, (size_t)length, &holder) != PASHKURE_OK)
-        return Py_BuildValue("iO", (int)result, Py_None);
-    return Py_BuildValue("iN", (int)result, text_of(holder));
+    seat->is_granted = false;
+    result = call(&manager->core, seat->key, name, (size_t)length);
+    is_told = adds(told, PyLong_FromLong(result));
+    if (is_told && (result == PASHKURE_WAITS || result == PASHKURE_DEADLOCK || result == PASHKURE_BUSY)
+        && pashkure_owner(&manager->core, name, (size_t)length, &holder) == PASHKURE_OK)
+        is_told = result == PASHKURE_DEADLOCK ? adds_path(manager, told, holder, seat->key) : adds(told, text_of(holder));
+    if (!is_told)
+        Py_CLEAR(told);
+    return told;
 }
 
 static PyObject *manager_lock(PyObject *self, PyObject *words)
@@ -259,6 +279,7 @@ static PyObject *manager_unlock(PyObject *self, PyObject *words)
 
 typedef pashkure_result end(pashkure *locks, pashkure_key key);
 
+/* Ends the transaction of the seat, which is not kept any more. */
 static PyObject *ended(PyObject *self, PyObject *words, end *call)
 {
     Manager *manager = (Manager *)self;
@@ -269,7 +290,7 @@ static PyObject *ended(PyObject *self, PyObject *words, end *call)
     result = call(&manager->core, seat->key);
     if (result == PASHKURE_OK) {
         note(manager);
-        forget_if_over(manager, seat);
+        Py_CLEAR(manager->seats[seat->key.slot]);
         tell(manager);
     }
     return PyLong_FromLong(result);
@@ -283,39 +304,32 @@ static PyObject *manager_abort(PyObject *self, PyObject *words)
 {
     return ended(self, words, pashkure_abort);
 }
+
+/* Takes the wait of the seat's transaction back. */
 static PyObject *manager_cancel(PyObject *self, PyObject *words)
 {
-    return ended(self, words, pashkure_cancel);
-}
-
-/* The name of a number as bytes. NULL without an exception: nobody owns it. */
-static PyObject *name_of(const Manager *manager, uint32_t number, pashkure_key *owner)
-{
-    char bytes[1024];
-    size_t length = 0;
-    if (pashkure_name(&manager->core, number, bytes, sizeof bytes, &length, owner) != PASHKURE_OK)
+    Seat *seat;
+    if (!PyArg_ParseTuple(words, "O!", &seat_type, &seat))
         return NULL;
-    return PyBytes_FromStringAndSize(bytes, (Py_ssize_t)length);
+    return PyLong_FromLong(pashkure_cancel(&((Manager *)self)->core, seat->key));
 }
 
-/* What is in a slot: the result and the key; of one that waits or is a victim also the name and its holder. */
+/* Who is in a slot: the key; of one that waits also the name and its holder. */
 static PyObject *manager_status(PyObject *self, PyObject *words)
 {
     Manager *manager = (Manager *)self;
     unsigned slot;
-    pashkure_seen seen = {{0, 0}, {0, 0}, 0, 0};
+    pashkure_seen seen = {{0, 0}, {0, 0}, 0};
     pashkure_key owner;
-    pashkure_result result;
     PyObject *name;
     if (!PyArg_ParseTuple(words, "I", &slot))
         return NULL;
-    result = pashkure_look(&manager->core, slot, &seen);
-    if (result != PASHKURE_WAITS && result != PASHKURE_DEADLOCK)
-        return Py_BuildValue("iN", (int)result, text_of(seen.key));
+    if (pashkure_look(&manager->core, slot, &seen) != PASHKURE_WAITS)
+        return Py_BuildValue("(N)", text_of(seen.key));
     name = name_of(manager, seen.number, &owner);
     if (name == NULL)
         return NULL; /* of memory: a name that is waited for is owned */
-    return Py_BuildValue("iNNN", (int)result, text_of(seen.key), name, text_of(seen.holder));
+    return Py_BuildValue("NNN", text_of(seen.key), name, text_of(seen.holder));
 }
 
 /* The names that are owned, each with the key of its owner. */
@@ -361,7 +375,7 @@ static PyObject *manager_totals(PyObject *self, PyObject *unused)
         (unsigned long long)counts.events);
 }
 
-static PyMethodDef seat_methods[] = {{"told", seat_told, METH_NOARGS, NULL}, {NULL, NULL, 0, NULL}};
+static PyMethodDef seat_methods[] = {{"is_granted", seat_is_granted, METH_NOARGS, NULL}, {NULL, NULL, 0, NULL}};
 static PyGetSetDef seat_members[] = {{"key", seat_key, NULL, NULL, NULL}, {"slot", seat_slot, NULL, NULL, NULL}, {NULL, NULL, NULL, NULL, NULL}};
 
 static PyMethodDef manager_methods[] = {

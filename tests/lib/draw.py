@@ -15,7 +15,7 @@ WEIGHTS = {b"begin": 8, b"acquire": 30, b"release": 6, b"transmit": 14, b"detect
 NAMES = [b"a", b"b", b"c", b"accounts/1", b"accounts/2", "Müller".encode(), "账户".encode(), b"\xff\x80", b"~!", b"thirteenbytes"]
 KINDS = {b"lock": 14, b"try": 3, b"unlock": 4, b"commit": 2, b"abort": 2.5, b"cancel": 3, b"begin": 4, b"owner": 1, b"status": 1, b"holds": 1,
          b"graph": 0.5, b"totals": 0.5}  # fmt: skip
-FURTHER = {b"begin": 4, b"lock": 8, b"cycle": 2, b"fence": 2, b"hello": 1, b"list": 1, b"counts": 1}
+FURTHER = {b"begin": 4, b"lock": 8, b"fence": 2, b"hello": 1, b"list": 1, b"counts": 1}
 SIZES = [(12, 7, 12), (3, 2, 12), (60, 9, 12), (5, 40, 64), (200, 3, 1024)]
 PLAIN = [b"fly", b"acquire 0.1", b"begin 1", b"release 0 0", b"state -1.1", b"settle now", b"x" * 129, b"acquire 0.1 4294967296", b"", b"   ", b"# a comment"]
 SILENT = [b"", b" ", b"\r", b"   \r", b"#", b"# begin", b"  #x", b"#\0\xff"]
@@ -199,8 +199,8 @@ class Connections(Requests):
     def further(self, among: Optional[list[bytes]]) -> bytes:
         """A request that only connections have."""
         chance, words = self.chance, [pick(self.chance, FURTHER)]
-        if words[0] in (b"lock", b"cycle", b"fence"):
-            words.append(self.key(b"status" if words[0] == b"cycle" else words[0], list(self.model.keys) if among is None else among))
+        if words[0] in (b"lock", b"fence"):
+            words.append(self.key(words[0], list(self.model.keys) if among is None else among))
         if words[0] == b"fence":
             owned = self.model.names.get(self.model.keys.get(words[1], -1), [])
             words.append(chance.choice(owned) if owned and chance.random() < 0.8 else self.name(words[0], words))

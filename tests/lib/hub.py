@@ -9,11 +9,13 @@ NUMBER = re.compile(rb"(?:0|[1-9][0-9]{0,19})\Z")
 CONNECTIONS = 5
 """Those of a service that answers inputs."""
 OPERATOR = 0
-OPERATOR_MAY = {b"owner", b"totals", b"graph", b"status", b"holds", b"abort", b"cycle", b"hello", b"list", b"counts"}
+PART = 256
+"""How many transactions of one that hangs up are set aside by one line, and how many end."""
+OPERATOR_MAY = {b"owner", b"totals", b"graph", b"status", b"holds", b"abort", b"hello", b"list", b"counts"}
 OPERATORS = {b"graph", b"list", b"counts"}
 ABOUT_NO_KEY = {b"begin", b"owner"}
-OF_TRANSACTION = {"no-transaction", "must-abort", "waiting"}
-FURTHER = {b"begin": "names", b"lock": "key names", b"cycle": "key", b"fence": "key name", b"hello": "", b"list": "", b"counts": ""}
+OF_TRANSACTION = {"no-transaction", "waiting"}
+FURTHER = {b"begin": "names", b"lock": "key names", b"fence": "key name", b"hello": "", b"list": "", b"counts": ""}
 """What follows the words that only a service with connections has."""
 
 
@@ -39,6 +41,7 @@ class Hub:
         self.connections, self.epoch = connections, epoch
         self.each = each or -(-self.service.table.processes // 4)
         self.began: dict[bytes, int] = {}  # in the order of the begins
+        self.aside: list[bytes] = []  # of those that hang up, whose waits were taken back; the last one first
         self.is_malformed = False
 
     def answer(self, line: bytes) -> list[bytes]:
@@ -77,7 +80,7 @@ class Hub:
         if connection == OPERATOR and reply == b"aborted":
             rest = [b"* aborted " + parts[0], *rest]
         if word == b"lock" and reply.startswith(b"deadlock "):
-            rest = [b"* deadlock" + self.pairs(parts[0]), *rest]
+            rest = [b"* deadlock" + self.service.cycle, *rest]
         return [to + reply, *self.told(rest)]
 
     def reply(self, connection: int, word: bytes, parts: list[bytes]) -> list[bytes]:
@@ -95,8 +98,7 @@ class Hub:
     # -- several names
 
     def begin_with(self, connection: int, names: list[bytes]) -> bytes:
-        live = [key for key, owner in self.began.items() if owner == connection and self.service.keys.get(key, -1) not in self.service.due | {-1}]
-        if len(live) >= self.each:
+        if sum(key in self.service.keys for key in self.own(connection)) >= self.each:
             raise Refused("transactions-full")
         reply = self.service.begin()
         self.begin(connection, reply[len(b"begun ") :])
@@ -111,25 +113,10 @@ class Hub:
             except Refused as refused:
                 return b"refused " + (b"" if str(refused) in OF_TRANSACTION else b"%d " % place) + str(refused).encode()
             if reply not in (b"granted", b"held"):
-                return reply.replace(b" ", b" %d " % place)
+                return reply.replace(b" ", b" %d " % place, 1)
         return b""
 
     # -- reads
-
-    def pairs(self, key: bytes) -> bytes:
-        """Each transaction on a cycle from this one on, with the name that it waits for."""
-        said, table, at = b"", self.service.table, key
-        for _ in range(16):
-            process = self.service.keys[at]
-            said += b" %b %b" % (at, table.wait[process])
-            at = self.service.key(table.holder(process))
-            if at == key:
-                return said
-        return said + b" .."
-
-    def cycle(self, key: bytes) -> list[bytes]:
-        process = self.service.live(key)
-        return [b"cycle" + self.pairs(key) if process in self.service.table.verdicts else b"refused not-deadlocked"]
 
     def fence(self, key: bytes, name: bytes) -> list[bytes]:
         process = self.service.live(key)
@@ -146,8 +133,7 @@ class Hub:
 
     def list(self) -> list[bytes]:
         live = sorted(self.service.keys, key=self.service.keys.__getitem__)
-        owners = [b"%d" % self.began[key] if key in self.began else b"-" for key in live]
-        return [b"list %d" % len(live), *(b"* %b %b %b" % (key, owner, self.service.status(key)) for key, owner in zip(live, owners))]
+        return [b"list %d" % len(live), *(b"* %b %d %b" % (key, self.began[key], self.service.status(key)) for key in live)]
 
     def counts(self) -> "list[bytes]":
         service, events = self.service, self.service.events
@@ -155,6 +141,10 @@ class Hub:
         return [b" ".join([b"counts", *(b"%d" % number for number in said)])]
 
     # -- who is told, and hang-ups
+
+    def own(self, connection: int) -> "list[bytes]":
+        """The transactions of a connection, the one begun last first, with those that have ended and whose processes are free."""
+        return [key for key, owner in reversed(self.began.items()) if owner == connection]
 
     def begin(self, connection: int, key: bytes) -> None:
         """What is known of the transaction that had the process before goes."""
@@ -164,16 +154,20 @@ class Hub:
 
     def told(self, events: "list[bytes]") -> "list[bytes]":
         """Each event with the number of the connection that it concerns."""
-        owners = [OPERATOR if event.startswith(b"* deadlock") else self.began.get(event.split(b" ")[2]) for event in events]
-        return [b"%d %b" % (owner, event) for owner, event in zip(owners, events) if owner is not None]
+        return [b"%d %b" % (OPERATOR if event.startswith(b"* deadlock") else self.began[event.split(b" ")[2]], event) for event in events]
 
     def hang_up(self, connection: int) -> "list[bytes]":
-        lines: list[bytes] = []
-        for key in [key for key, owner in reversed(list(self.began.items())) if owner == connection]:
-            del self.began[key]
+        """A part of a hang-up: first the waits of all transactions are taken back, part by part, and then they end."""
+        lines: "list[bytes]" = []
+        for key in [key for key in self.own(connection) if key not in self.aside][:PART]:
+            self.service.make(b"cancel", key)
+            self.aside.insert(0, key)
+        own = self.own(connection)
+        for key in [key for key in self.aside if key in own][:PART] if {*own} <= {*self.aside} else []:
             _, *events = self.service.make(b"abort", key)
-            lines += [line for line in self.told(events) if not line.startswith(b"%d " % connection)]
-        return [*lines, b"- %d" % connection]
+            lines += self.told(events)
+            del self.began[key]
+        return [*lines, (b"* more %d" if self.own(connection) else b"- %d") % connection]
 
 
 def answers(data: bytes) -> tuple[int, bytes]:

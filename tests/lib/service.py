@@ -1,10 +1,9 @@
 """The lock service by docs/SERVICE.md, on top of the table of docs/ALGORITHM.md.
 
-It says each reply exactly, `carried` and `later` among them, and the order of grants. That order is promised by no page: a transaction that ends hands over its names by their numbers, and a name that
+It says each reply exactly, and the order of grants. That order is promised by no page: a transaction that ends hands over its names by their numbers, and a name that
 nobody owned gets the number that was freed last, or else the least that was never used. If nobody waits for any, what was granted last is freed first."""
 import re
-from collections import deque
-from typing import Callable, Iterable, Optional
+from typing import Callable, Optional
 
 from lib.table import Table, lines_of, shown
 
@@ -13,6 +12,8 @@ LONGEST = 1048
 """Bytes of a line: `unlock`, a key of 16 bytes, a name of 1,024, and two spaces."""
 NUMBER = re.compile(rb"[0-9]{1,20}\Z")
 NAME = re.compile(rb"[!-~\x80-\xff]{1,1024}\Z")
+LONGEST_PATH = 16
+"""Waits of a cycle that a line tells."""
 LIMITS = {"transactions": 65_536, "names": 65_536, "name_bytes": 64}
 GREATEST = {"transactions": 65_536, "names": 65_536, "name-bytes": 1_024, "each": 65_536, "epoch": 2**63 - 1}
 """The greatest number that each option may have. The least is 1."""
@@ -71,11 +72,11 @@ class Service:
         self.names: dict[int, list[bytes]] = {}  # by process: what it owns, in the order of the grants
         self.numbers: dict[bytes, int] = {}  # of names that are owned
         self.freed: list[int] = []  # numbers, of which the last one is given again first
-        self.due: set[int] = set()  # those that are aborted as soon as their waits end
         self.counts = [0, 0, 0, 0]  # begun, committed, aborted, deadlocks
         self.waits = self.withdrawn = 0
         self.events = 0  # of the table, with each settle
         self.caused: list[bytes] = []
+        self.cycle = b""  # that the last request would have closed, from its own wait on
         self.is_malformed = False
 
     def answer(self, line: bytes) -> list[bytes]:
@@ -109,7 +110,7 @@ class Service:
         """A transaction that may ask for something."""
         process = self.live(key)
         if process in self.table.wait:
-            raise Refused("must-abort" if process in self.table.verdicts else "waiting")
+            raise Refused("waiting")
         if len(name) > self.name_bytes:
             raise Refused("name-too-long")
         return process
@@ -127,9 +128,9 @@ class Service:
         self.events += 1
         return b"granted"
 
-    def hand_over(self, process: int, names: list[bytes]) -> list[int]:
-        """Gives each name to its longest waiter, and returns these in order."""
-        granted, owned = [], [name for name in reversed(self.names[process]) if name in names]
+    def hand_over(self, process: int, names: list[bytes]) -> None:
+        """Gives each name to its longest waiter."""
+        owned = [name for name in reversed(self.names[process]) if name in names]
         if any(self.table.queue.get(name) for name in owned):
             owned.sort(key=self.numbers.__getitem__)
         for name in owned:
@@ -137,47 +138,25 @@ class Service:
             heir = self.table.hand_over(name)
             if heir is not None:
                 self.names[heir].append(name)
-                self.caused.append(b"* aborted " + self.key(heir) if heir in self.due else b"* granted %b %b" % (self.key(heir), name))
-                granted.append(heir)
+                self.caused.append(b"* granted %b %b" % (self.key(heir), name))
         self.freed += [self.numbers.pop(name) for name in owned if name not in self.table.owner]
         self.events += 1 + any(self.table.queue.get(name) for name in owned)  # a settle follows if one of those that got new labels waits
-        return granted
-
-    def end(self, process: int) -> list[int]:
-        """Ends a transaction, and returns those whose waits ended by that, in order."""
-        if process in self.table.wait:
-            self.table.end_wait(process)
-        self.table.verdicts.discard(process)
-        del self.keys[self.key(process)]
-        granted = self.hand_over(process, list(self.names[process]))
-        self.due.discard(process)
-        self.table.vacate(process)
-        return granted
-
-    def settle(self, freed: Iterable[int]) -> None:
-        """Ends those whose waits ended and whose aborts are due, and then those whose waits end by that, in order."""
         self.table.settle()
-        left = deque(freed)
-        while left:
-            process = left.popleft()
-            if process in self.due:
-                self.counts[2] += 1
-                left.extend(self.end(process))
-                self.table.settle()
 
-    def withdraw(self, process: int) -> bool:
-        """Takes back a wait, if it may be. It may not only if it is behind a victim, as a search says too."""
-        is_behind, place = False, process
-        for _ in self.table.wait:
-            place = self.table.holder(place) if place in self.table.wait else place
-            is_behind = is_behind or place in self.table.verdicts
-        is_carried = self.table.private(process) != self.table.public(process)
-        is_renewed = is_carried and any(other != process and self.table.private(other) == self.table.public(process) for other in self.table.wait)
-        if self.table.withdraw(process):
-            self.events += 1 + is_renewed
-            return True
-        assert is_behind, f"labels keep {process}, and a search finds no victim ahead"
-        return False
+    def end(self, process: int) -> None:
+        """Ends a transaction that does not wait."""
+        del self.keys[self.key(process)]
+        self.hand_over(process, list(self.names[process]))
+        self.table.vacate(process)
+
+    def withdraw(self, process: int) -> None:
+        """Takes back a wait."""
+        self.events += 1 + self.table.withdraw(process)
+
+    def path(self, places: list[int]) -> bytes:
+        """The waits of these transactions, as a line tells them: each with the name that it waits for."""
+        pairs = [b" %b %b" % (self.key(place), self.table.wait[place]) for place in places[:LONGEST_PATH]]
+        return b"".join([*pairs, b" .."] if len(places) > LONGEST_PATH else pairs)
 
     # -- requests
 
@@ -196,15 +175,18 @@ class Service:
         reply = self.take(process, name)
         if reply is not None:
             return reply
-        holder = self.key(self.table.owner[name])
         self.table.acquire(self.table.key(process), name)
         self.table.settle()
-        is_victim = process in self.table.verdicts
-        assert is_victim == bool(self.table.cycle(process)), "labels and the search do not agree"
-        self.counts[3] += is_victim
-        self.waits += not is_victim
         self.events += 2
-        return (b"deadlock " if is_victim else b"waits ") + holder
+        cycle = self.table.cycle(process)
+        assert self.table.verdicts == ({process} if cycle else set()), "labels and the search do not agree"
+        if not cycle:
+            self.waits += 1
+            return b"waits " + self.key(self.table.owner[name])
+        self.counts[3] += 1
+        self.cycle, rest = self.path(cycle), self.path(cycle[1:])
+        self.table.take_back(process)
+        return b"deadlock" + rest
 
     def try_lock(self, key: bytes, name: bytes) -> bytes:
         reply = self.take(self.idle(key, name), name)
@@ -214,36 +196,29 @@ class Service:
         process = self.idle(key, name)
         if self.table.owner.get(name) != process:
             raise Refused("not-owner")
-        self.settle(self.hand_over(process, [name]))
+        self.hand_over(process, [name])
         return b"unlocked"
 
     def commit(self, key: bytes) -> bytes:
         process = self.idle(key)
         self.counts[1] += 1
-        self.settle(self.end(process))
+        self.end(process)
         return b"committed"
 
     def abort(self, key: bytes) -> bytes:
         process = self.live(key)
-        if process in self.table.wait and process not in self.table.verdicts and not self.withdraw(process):
-            self.due.add(process)
-            return b"later"
+        if process in self.table.wait:
+            self.withdraw(process)
         self.counts[2] += 1
-        self.settle(self.end(process))
+        self.end(process)
         return b"aborted"
 
     def cancel(self, key: bytes) -> bytes:
         process = self.live(key)
-        if process in self.table.verdicts:
-            raise Refused("must-abort")
         if process not in self.table.wait:
             raise Refused("not-waiting")
-        if not self.withdraw(process):
-            return b"carried"
+        self.withdraw(process)
         self.withdrawn += 1
-        if process in self.due:
-            self.caused.append(b"* aborted " + key)
-        self.settle([process])
         return b"cancelled"
 
     def owner(self, name: bytes) -> bytes:
@@ -254,9 +229,7 @@ class Service:
         process = self.live(key)
         if process not in self.table.wait:
             return b"active"
-        word = b"deadlock" if process in self.table.verdicts else b"waiting"
-        aborting = b" aborting" if process in self.due else b""
-        return b"%b %b %b%b" % (word, self.table.wait[process], self.key(self.table.holder(process)), aborting)
+        return b"waiting %b %b" % (self.table.wait[process], self.key(self.table.holder(process)))
 
     def holds(self, key: bytes) -> bytes:
         return b" ".join([b"holds", *sorted(self.names[self.live(key)])])

@@ -253,17 +253,20 @@ class Table:
         return f"settled {raises} {len(found)}"
 
     def withdraw(self, process: int) -> bool:
-        """Takes back the wait of a process without a verdict in a table at rest, if it may be."""
+        """Takes back the wait of a process in a table at rest without a verdict. Whether the one whose label it shows got another one."""
         label = self.public(process)
         makers = [other for other in self.wait if other != process and self.private(other) == label]
-        if any(other in self.verdicts for other in makers):
-            return False
         for other in makers:
             self.relabel(other, self.holder(other))
         self.end_wait(process)
         if makers:
             self.settle()
-        return True
+        return bool(makers)
+
+    def take_back(self, process: int) -> None:
+        """Takes back the wait of a process with a verdict, and the verdict."""
+        self.verdicts.remove(process)
+        self.end_wait(process)
 
     def state(self, key: Key) -> str:
         process = self.live_process(key)

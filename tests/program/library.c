@@ -62,39 +62,41 @@ static const char *named(const pashkure *locks, uint32_t number)
     return text;
 }
 
-/* The waits from a slot on, holder by holder, as "slot:name>", and what ended the walk: '.' that the first one is back, else what is there. */
-static const char *walk(const pashkure *locks, uint32_t first)
+/* The waits from a slot on, holder by holder, as "slot:name>", and what is in the slot to which they lead. */
+static const char *walk(const pashkure *locks, uint32_t slot)
 {
     static char text[200];
     char *end = text;
-    uint32_t slot = first;
-    pashkure_seen at;
-    *end = 0;
-    do {
-        pashkure_result does = pashkure_look(locks, slot, &at);
-        if (does != PASHKURE_WAITS && does != PASHKURE_DEADLOCK) {
-            sprintf(end, "%d", does);
-            return text;
-        }
+    pashkure_result does;
+    for (pashkure_seen at; (does = pashkure_look(locks, slot, &at)) == PASHKURE_WAITS; slot = at.holder.slot)
         end += sprintf(end, "%u:%s>", (unsigned)at.key.slot, named(locks, at.number));
-        slot = at.holder.slot;
-    } while (slot != first);
-    strcpy(end, ".");
+    sprintf(end, "%u is %d", (unsigned)slot, does);
     return text;
 }
 
-/* What the last call told: "slot+number" of each that was given a name, "slot-" of each that ended. */
+/* The cycle after DEADLOCK of a request for this name, by the lines of the header: "slot:name>" of each wait, and to whom the last one leads. */
+static const char *cycle(const pashkure *locks, const char *name)
+{
+    static char text[200];
+    char *end = text;
+    pashkure_key at;
+    pashkure_seen seen;
+    if (pashkure_owner(locks, name, strlen(name), &at) == PASHKURE_OK)
+        for (; pashkure_look(locks, at.slot, &seen) == PASHKURE_WAITS; at = seen.holder)
+            end += sprintf(end, "%u:%s>", (unsigned)seen.key.slot, named(locks, seen.number));
+    sprintf(end, "%u", (unsigned)at.slot);
+    return text;
+}
+
+/* Whose waits the last call ended: "slot+number" of each. */
 static const char *woken(const pashkure *locks)
 {
     static char text[200];
     char *end = text;
     pashkure_wake wake;
     *end = 0;
-    for (size_t i = 0; pashkure_woken(locks, i, &wake); i++) {
-        CHECK(wake.result == PASHKURE_OK || wake.result == PASHKURE_ABORTED);
-        end += wake.result == PASHKURE_OK ? sprintf(end, "%u+%u ", (unsigned)wake.key.slot, (unsigned)wake.number)
-                                          : sprintf(end, "%u- ", (unsigned)wake.key.slot);
-    }
+    for (size_t i = 0; pashkure_woken(locks, i, &wake); i++)
+        end += sprintf(end, "%u+%u ", (unsigned)wake.key.slot, (unsigned)wake.number);
     return text;
 }
 
@@ -224,7 +226,7 @@ TEST(order_of_waiters)
 {
     pashkure locks = opened(4, 4);
     pashkure_key t[4];
-    pashkure_wake wake = {{7, 7}, 7, 7};
+    pashkure_wake wake = {{7, 7}, 7};
     for (int i = 0; i < 4; i++)
         t[i] = begun(&locks);
     GIVES(locks_name(&locks, t[3], "x"), PASHKURE_OK);
@@ -232,7 +234,7 @@ TEST(order_of_waiters)
         GIVES(locks_name(&locks, t[i], "x"), PASHKURE_WAITS);
     for (int i = 3; i >= 1; i--) {
         GIVES(pashkure_commit(&locks, t[i]), PASHKURE_OK);
-        CHECK(pashkure_woken(&locks, 0, &wake) && is_same(wake.key, t[i - 1]) && wake.result == PASHKURE_OK);
+        CHECK(pashkure_woken(&locks, 0, &wake) && is_same(wake.key, t[i - 1]));
         CHECK(strcmp(named(&locks, wake.number), "x") == 0);
         CHECK(!pashkure_woken(&locks, 1, &wake) && !pashkure_woken(&locks, SIZE_MAX, &wake) && is_same(wake.key, t[i - 1]));
     }
@@ -254,22 +256,61 @@ TEST(deadlock_by_names)
     GIVES(locks_name(&locks, t[3], "red"), PASHKURE_WAITS);
     GIVES(locks_name(&locks, t[0], "green"), PASHKURE_WAITS);
     GIVES(locks_name(&locks, t[1], "blue"), PASHKURE_WAITS);
-    CHECK(strcmp(walk(&locks, 3), "3:red>0:green>1:blue>0") == 0); /* ends at who works: 2 is PASHKURE_OK */
-    CHECK(strcmp(walk(&locks, 7), "7") == 0);                      /* PASHKURE_FREE */
-    CHECK(strcmp(walk(&locks, 4000000000u), "7") == 0);
+    CHECK(strcmp(walk(&locks, 3), "3:red>0:green>1:blue>2 is 0") == 0); /* PASHKURE_OK: it works */
+    CHECK(strcmp(walk(&locks, 7), "7 is 7") == 0);                      /* PASHKURE_FREE */
+    CHECK(strcmp(walk(&locks, 4000000000u), "4000000000 is 7") == 0);
     GIVES(locks_name(&locks, t[2], "red"), PASHKURE_DEADLOCK);
-    CHECK(strcmp(walk(&locks, 2), "2:red>0:green>1:blue>.") == 0);
-    GIVES(pashkure_look(&locks, 2, &seen), PASHKURE_DEADLOCK);
-    CHECK(is_same(seen.key, t[2]) && is_same(seen.holder, t[0]) && !seen.is_aborting);
-    GIVES(locks_name(&locks, t[2], "grey"), PASHKURE_MUST_ABORT);
-    GIVES(pashkure_try_lock(&locks, t[2], "grey", 4), PASHKURE_MUST_ABORT);
-    GIVES(pashkure_unlock(&locks, t[2], "blue", 4), PASHKURE_MUST_ABORT);
-    GIVES(pashkure_commit(&locks, t[2]), PASHKURE_MUST_ABORT);
-    GIVES(pashkure_cancel(&locks, t[2]), PASHKURE_MUST_ABORT);
-    GIVES(pashkure_abort(&locks, t[2]), PASHKURE_OK);
-    CHECK(strcmp(woken(&locks), "1+2 ") == 0);
-    GIVES(pashkure_look(&locks, 1, &seen), PASHKURE_OK);
-    CHECK(is_same(seen.key, t[1]) && seen.holder.generation == 0 && seen.holder.slot == 0 && seen.number == 0);
+    CHECK(*woken(&locks) == 0);
+    CHECK(strcmp(cycle(&locks, "red"), "0:green>1:blue>2") == 0);
+    GIVES(pashkure_look(&locks, 2, &seen), PASHKURE_OK);
+    CHECK(is_same(seen.key, t[2]) && seen.holder.generation == 0 && seen.holder.slot == 0 && seen.number == 0);
+    pashkure_close(&locks);
+}
+
+/* Who was told of a deadlock does not wait, keeps what it owns, and may make each call. The others wait on. */
+TEST(after_a_deadlock)
+{
+    pashkure locks = opened(8, 8);
+    pashkure_key a = begun(&locks), b = begun(&locks), owner;
+    pashkure_counts counts;
+    GIVES(locks_name(&locks, a, "x"), PASHKURE_OK);
+    GIVES(locks_name(&locks, b, "y"), PASHKURE_OK);
+    GIVES(locks_name(&locks, a, "y"), PASHKURE_WAITS);
+    GIVES(locks_name(&locks, b, "x"), PASHKURE_DEADLOCK);
+    GIVES(locks_name(&locks, b, "x"), PASHKURE_DEADLOCK); /* again, since it gave nothing back */
+    GIVES(pashkure_cancel(&locks, b), PASHKURE_NOT_WAITING);
+    GIVES(locks_name(&locks, b, "z"), PASHKURE_OK);
+    GIVES(pashkure_try_lock(&locks, b, "x", 1), PASHKURE_BUSY);
+    GIVES(pashkure_owner(&locks, "y", 1, &owner), PASHKURE_OK);
+    CHECK(is_same(owner, b) && strcmp(walk(&locks, a.slot), "0:y>1 is 0") == 0);
+    GIVES(pashkure_commit(&locks, b), PASHKURE_OK);
+    CHECK(strcmp(woken(&locks), "0+1 ") == 0);
+    pashkure_totals(&locks, &counts);
+    CHECK(counts.deadlocks == 2 && counts.waits == 1 && counts.withdrawn == 0 && counts.committed == 1);
+    pashkure_close(&locks);
+}
+
+/* One of the two gives back what it locked since its savepoint, and nothing else: both commit. */
+TEST(savepoint)
+{
+    pashkure locks = opened(8, 8);
+    pashkure_key a = begun(&locks), b = begun(&locks);
+    pashkure_counts counts;
+    GIVES(locks_name(&locks, a, "x"), PASHKURE_OK);
+    GIVES(locks_name(&locks, b, "w"), PASHKURE_OK); /* before its savepoint */
+    GIVES(locks_name(&locks, b, "y"), PASHKURE_OK);
+    GIVES(locks_name(&locks, a, "y"), PASHKURE_WAITS);
+    GIVES(locks_name(&locks, b, "x"), PASHKURE_DEADLOCK);
+    GIVES(pashkure_unlock(&locks, b, "y", 1), PASHKURE_OK);
+    CHECK(strcmp(woken(&locks), "0+2 ") == 0);
+    GIVES(locks_name(&locks, b, "w"), PASHKURE_HELD);
+    GIVES(locks_name(&locks, b, "x"), PASHKURE_WAITS);
+    GIVES(pashkure_commit(&locks, a), PASHKURE_OK);
+    CHECK(strcmp(woken(&locks), "1+0 ") == 0);
+    GIVES(locks_name(&locks, b, "y"), PASHKURE_OK);
+    GIVES(pashkure_commit(&locks, b), PASHKURE_OK);
+    pashkure_totals(&locks, &counts);
+    CHECK(counts.committed == 2 && counts.aborted == 0 && counts.deadlocks == 1);
     pashkure_close(&locks);
 }
 
@@ -296,27 +337,8 @@ TEST(cancelled_wait)
     pashkure_close(&locks);
 }
 
-TEST(behind_a_victim)
-{
-    pashkure locks = opened(8, 8);
-    pashkure_key a = begun(&locks), b = begun(&locks);
-    pashkure_seen seen;
-    GIVES(locks_name(&locks, a, "x"), PASHKURE_OK);
-    GIVES(locks_name(&locks, b, "y"), PASHKURE_OK);
-    GIVES(locks_name(&locks, a, "y"), PASHKURE_WAITS);
-    GIVES(locks_name(&locks, b, "x"), PASHKURE_DEADLOCK);
-    GIVES(pashkure_cancel(&locks, a), PASHKURE_CARRIED);
-    GIVES(pashkure_abort(&locks, a), PASHKURE_LATER);
-    GIVES(pashkure_look(&locks, a.slot, &seen), PASHKURE_WAITS);
-    CHECK(seen.is_aborting == 1 && is_same(seen.holder, b));
-    GIVES(pashkure_abort(&locks, b), PASHKURE_OK);
-    CHECK(strcmp(woken(&locks), "0+1 0- ") == 0);
-    GIVES(pashkure_look(&locks, a.slot, &seen), PASHKURE_FREE);
-    pashkure_close(&locks);
-}
-
-/* An abort that was LATER comes due by a cancel too, once no victim is ahead any more. */
-TEST(cancelled_wait_of_who_aborts)
+/* The waits that lead to who was told of a deadlock are taken back at once, and those who wait there are aborted at once. */
+TEST(ends_of_waiters)
 {
     pashkure locks = opened(8, 8);
     pashkure_key a = begun(&locks), b = begun(&locks), c = begun(&locks), d = begun(&locks);
@@ -328,14 +350,13 @@ TEST(cancelled_wait_of_who_aborts)
     GIVES(locks_name(&locks, c, "x"), PASHKURE_WAITS);
     GIVES(locks_name(&locks, a, "y"), PASHKURE_WAITS);
     GIVES(locks_name(&locks, b, "x"), PASHKURE_DEADLOCK);
-    GIVES(pashkure_cancel(&locks, c), PASHKURE_CARRIED);
-    GIVES(pashkure_abort(&locks, c), PASHKURE_LATER);
-    GIVES(pashkure_abort(&locks, b), PASHKURE_OK);
-    GIVES(pashkure_look(&locks, c.slot, &seen), PASHKURE_WAITS);
-    CHECK(seen.is_aborting == 1);
-    GIVES(pashkure_cancel(&locks, c), PASHKURE_OK);
+    GIVES(pashkure_abort(&locks, c), PASHKURE_OK);
+    CHECK(strcmp(woken(&locks), "3+2 ") == 0);
     GIVES(pashkure_look(&locks, c.slot, &seen), PASHKURE_FREE);
-    GIVES(pashkure_look(&locks, d.slot, &seen), PASHKURE_OK);
+    GIVES(pashkure_cancel(&locks, a), PASHKURE_OK);
+    CHECK(*woken(&locks) == 0);
+    GIVES(pashkure_look(&locks, a.slot, &seen), PASHKURE_OK);
+    GIVES(locks_name(&locks, b, "x"), PASHKURE_WAITS);
     pashkure_close(&locks);
 }
 
@@ -422,7 +443,7 @@ TEST(bytes_of_an_open)
         config.transactions = SIZES[i][0];
         config.names = SIZES[i][1];
         config.name_bytes = SIZES[i][2];
-        most = (config.name_bytes + 71ul) * config.names + 102ul * config.transactions + 1200;
+        most = (config.name_bytes + 71ul) * config.names + 81ul * config.transactions + 1000;
         bytes = 0;
         GIVES(pashkure_open(&locks, &config), PASHKURE_OK);
         CHECK(bytes <= most && bytes >= most - most / 50 - 200);
@@ -444,9 +465,10 @@ static const struct test TESTS[] = {
     ROW(requests),
     ROW(order_of_waiters),
     ROW(deadlock_by_names),
+    ROW(after_a_deadlock),
+    ROW(savepoint),
     ROW(cancelled_wait),
-    ROW(behind_a_victim),
-    ROW(cancelled_wait_of_who_aborts),
+    ROW(ends_of_waiters),
     ROW(names),
     ROW(moved_and_opened_again),
     ROW(memory),

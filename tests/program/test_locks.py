@@ -4,21 +4,29 @@ from lib.world import Case, each
 LONG = "x" * 1024
 TAKEN = ["begin: begun 0.1", "begin: begun 1.1", "lock 0.1 a: granted"]
 THREE = ["begin: begun 0.1", "begin: begun 1.1", "begin: begun 2.1"]
-# 0.1 shows the label of 1.1, which waited after it did. No victim is ahead, so its wait can be taken back, and 1.1 gets a new label.
+# 0.1 shows the label of 1.1, which waited after it did. Its wait can be taken back all the same, and 1.1 gets a new label.
 CHAIN = [*THREE, "lock 1.1 b: granted", "lock 2.1 c: granted", "lock 0.1 b: waits 1.1", "lock 1.1 c: waits 2.1"]
-# 2.1 waits for 0.1, and 0.1 for 1.1, which closed the cycle and has yet to abort: the wait of 2.1 cannot be taken back before that.
-CARRIED = [*THREE, "lock 0.1 a: granted", "lock 1.1 b: granted", "lock 2.1 a: waits 0.1", "lock 0.1 b: waits 1.1", "lock 1.1 a: deadlock 0.1"]
+# 2.1 waits for 0.1, and 0.1 for 1.1, whose wait for 0.1 would close a cycle.
+REFUSED = [*THREE, "lock 0.1 a: granted", "lock 1.1 b: granted", "lock 2.1 a: waits 0.1", "lock 0.1 b: waits 1.1", "lock 1.1 a: deadlock 0.1 b"]
+# Each of seventeen owns the name of its number, and each but the last one waits for that of the next one.
+RING = [*(f"begin: begun {of}.1" for of in range(17)), *(f"lock {of}.1 {of}: granted" for of in range(17)), *(f"lock {of}.1 {of + 1}: waits {of + 1}.1" for of in range(16))]
 ANSWERS = [
     ("nothing", [], ""),
     ("each answer of lock and try", [*TAKEN, "lock 0.1 a: held", "try 0.1 a: held", "try 1.1 a: busy 0.1", "try 1.1 b: granted",
-     "lock 1.1 a: waits 0.1", "lock 0.1 b: deadlock 1.1"], ""),
+     "lock 1.1 a: waits 0.1", "lock 0.1 b: deadlock 1.1 a"], ""),
     ("a name is handed to its longest waiter", [*THREE, "lock 0.1 a: granted", "lock 1.1 a: waits 0.1", "lock 2.1 a: waits 0.1",
      "owner a: owner 0.1", "unlock 0.1 a: unlocked/* granted 1.1 a", "owner a: owner 1.1", "commit 1.1: committed/* granted 2.1 a",
      "owner a: owner 2.1", "commit 2.1: committed", "owner a: free"], ""),
-    ("a victim keeps its locks until its abort", [*TAKEN, "lock 1.1 b: granted", "lock 0.1 b: waits 1.1", "lock 1.1 a: deadlock 0.1",
-     "status 1.1: deadlock a 0.1", "holds 1.1: holds b", "lock 1.1 c: refused must-abort", "try 1.1 c: refused must-abort",
-     "unlock 1.1 b: refused must-abort", "commit 1.1: refused must-abort", "cancel 1.1: refused must-abort",
-     "abort 1.1: aborted/* granted 0.1 b", "status 1.1: refused no-transaction", "holds 0.1: holds a b"], ""),
+    ("who is told of a deadlock goes on with its locks", [*TAKEN, "lock 1.1 b: granted", "lock 0.1 b: waits 1.1", "lock 1.1 a: deadlock 0.1 b",
+     "status 1.1: active", "holds 1.1: holds b", "cancel 1.1: refused not-waiting", "lock 1.1 a: deadlock 0.1 b", "lock 1.1 c: granted",
+     "try 1.1 a: busy 0.1", "unlock 1.1 b: unlocked/* granted 0.1 b", "lock 1.1 a: waits 0.1", "commit 0.1: committed/* granted 1.1 a",
+     "holds 1.1: holds a c", "commit 1.1: committed", "totals: totals 2 2 0 2"], ""),
+    ("the waits of a deadlock lead back to who is told", [*THREE, "begin: begun 3.1", "lock 0.1 a: granted", "lock 1.1 b: granted",
+     "lock 2.1 c: granted", "lock 3.1 a: waits 0.1", "lock 0.1 b: waits 1.1", "lock 1.1 c: waits 2.1", "lock 2.1 a: deadlock 0.1 b 1.1 c",
+     "abort 2.1: aborted/* granted 1.1 c"], ""),
+    ("sixteen waits of a deadlock are told", [*RING, f"lock 16.1 0: deadlock {' '.join(f'{of}.1 {of + 1}' for of in range(16))}"], ""),
+    ("of seventeen waits the last one is not told", [*RING, "begin: begun 17.1", "lock 17.1 17: granted", "lock 16.1 17: waits 17.1",
+     f"lock 17.1 0: deadlock {' '.join(f'{of}.1 {of + 1}' for of in range(16))} .."], ""),
     ("who waits may cancel and abort and nothing else", [*TAKEN, "lock 1.1 a: waits 0.1", "lock 1.1 b: refused waiting",
      "try 1.1 b: refused waiting", "unlock 1.1 a: refused waiting", "commit 1.1: refused waiting", "cancel 1.1: cancelled",
      "status 1.1: active", "cancel 1.1: refused not-waiting", "lock 1.1 a: waits 0.1", "abort 1.1: aborted",
@@ -26,20 +34,18 @@ ANSWERS = [
     ("a wait behind another one is taken back", [*CHAIN, "cancel 0.1: cancelled", "status 0.1: active", "status 1.1: waiting c 2.1",
      "unlock 2.1 c: unlocked/* granted 1.1 c", "unlock 1.1 b: unlocked", "owner b: free"], ""),
     ("who waits behind another one is aborted at once", [*CHAIN, "abort 0.1: aborted", "status 0.1: refused no-transaction",
-     "lock 2.1 b: deadlock 1.1", "abort 2.1: aborted/* granted 1.1 c", "totals: totals 3 0 2 1"], ""),
-    ("a cancel behind a victim and after its abort", [*CARRIED, "cancel 2.1: carried", "cancel 0.1: carried", "abort 1.1: aborted/* granted 0.1 b",
-     "cancel 2.1: cancelled", "status 2.1: active", "holds 0.1: holds a b"], ""),
-    ("an abort that comes due by a grant", [*CARRIED, "cancel 2.1: carried", "abort 2.1: later", "abort 2.1: later",
-     "status 2.1: waiting a 0.1 aborting", "abort 1.1: aborted/* granted 0.1 b", "commit 0.1: committed/* aborted 2.1",
-     "status 2.1: refused no-transaction", "owner a: free", "totals: totals 3 1 2 1"], ""),
-    ("what one whose abort comes due owned goes on", [*THREE, "begin: begun 3.1", "lock 2.1 z: granted", "lock 3.1 z: waits 2.1",
-     "lock 0.1 a: granted", "lock 1.1 b: granted", "lock 2.1 a: waits 0.1", "lock 0.1 b: waits 1.1", "lock 1.1 a: deadlock 0.1",
-     "abort 2.1: later", "abort 1.1: aborted/* granted 0.1 b", "unlock 0.1 a: unlocked/* aborted 2.1/* granted 3.1 z"], ""),
+     "lock 2.1 b: deadlock 1.1 c", "abort 2.1: aborted/* granted 1.1 c", "totals: totals 3 0 2 1"], ""),
+    ("a wait behind a deadlock is taken back at once", [*REFUSED, "cancel 2.1: cancelled", "cancel 0.1: cancelled", "status 2.1: active",
+     "lock 1.1 a: waits 0.1", "holds 0.1: holds a"], ""),
+    ("who waits behind a deadlock is aborted at once", [*REFUSED, "abort 2.1: aborted", "abort 0.1: aborted", "owner a: free",
+     "lock 1.1 a: granted", "totals: totals 3 0 2 1"], ""),
+    ("what one owned that waits goes on at its abort", [*THREE, "begin: begun 3.1", "lock 2.1 z: granted", "lock 3.1 z: waits 2.1",
+     "lock 0.1 a: granted", "lock 2.1 a: waits 0.1", "abort 2.1: aborted/* granted 3.1 z"], ""),
     ("names are listed in the order of their bytes", ["begin: begun 0.1", *(f"lock 0.1 {name}: granted" for name in ("b", "a", "ab", "B", "é")),
      "holds 0.1: holds B a ab b é", "unlock 0.1 ab: unlocked", "holds 0.1: holds B a b é", "holds 0.2: refused no-transaction"], ""),
     ("the graph is by the keys", [*THREE, "graph: graph 0", "lock 2.1 a: granted", "lock 1.1 a: waits 2.1", "lock 0.1 b: granted",
-     "lock 2.1 b: waits 0.1", "graph: graph 2/* 1.1 a 2.1/* 2.1 b 0.1", "lock 0.1 a: deadlock 2.1",
-     "graph: graph 3/* 0.1 a 2.1/* 1.1 a 2.1/* 2.1 b 0.1"], ""),
+     "lock 2.1 b: waits 0.1", "graph: graph 2/* 1.1 a 2.1/* 2.1 b 0.1", "lock 0.1 a: deadlock 2.1 b",
+     "graph: graph 2/* 1.1 a 2.1/* 2.1 b 0.1"], ""),
     ("as many transactions as there can be", [*THREE[:2], "begin: refused transactions-full", "commit 0.1: committed", "begin: begun 0.2"],
      "--transactions 2"),
     ("as many names as there can be", ["begin: begun 0.1", "lock 0.1 a: granted", "lock 0.1 b: granted", "lock 0.1 c: refused names-full",

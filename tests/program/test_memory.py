@@ -21,10 +21,10 @@ TABLE = b"table 64 128 1000000 1000000\n"
 # Two transactions that wait for each other, the second of which is aborted. Their processes are the next ones to be given again.
 CALLS = ("begin\nbegin\nacquire 0.{0} 0\nacquire 1.{0} 1\nacquire 0.{0} 1\ngive_up 0.{0}\nacquire 0.{0} 1\nacquire 1.{0} 0\ntransmit 0.{0}\n"
          "detect 1.{0}\nsettle\nstate 1.{0}\nowner 0\nabort 1.{0}\nrelease 0.{0} 0\nfinish 0.{0}\ntotals\n")  # fmt: skip
-# Two transactions that lock names and deadlock, one whose abort comes later, and each request that reads.
-LOCKS = (b"begin\nbegin\nbegin\nlock 0.1 a\nlock 1.1 b\nlock 0.1 b\nlock 1.1 a\nabort 1.1\nunlock 0.1 a\ntry 2.1 a\nlock 2.1 b\ncancel 2.1\n"
+# Two transactions that lock names and deadlock, after which one goes on and the other is aborted while it waits, and each request that reads.
+LOCKS = (b"begin\nbegin\nbegin\nlock 0.1 a\nlock 1.1 b\nlock 0.1 b\nlock 1.1 a\nunlock 1.1 b\nlock 1.1 a\nabort 1.1\nunlock 0.1 a\ntry 2.1 a\nlock 2.1 b\ncancel 2.1\n"
          b"holds 0.1\ngraph\nstatus 2.1\nowner b\ncommit 0.1\ntotals\n")  # fmt: skip
-CONNECTIONS = b"1 begin a b\n2 begin\n2 lock 1.1 c a\n1 lock 0.1 c\n0 list\n0 graph\n0 counts\n1 hello\n1 cycle 0.1\n1 holds 0.1\n2 fence 1.1 c\n0 abort 0.1\n- 1\n- 2\n"
+CONNECTIONS = b"1 begin a b\n2 begin\n2 lock 1.1 c a\n1 lock 0.1 c\n0 list\n0 graph\n0 counts\n1 hello\n1 holds 0.1\n2 fence 1.1 c\n0 abort 0.1\n- 1\n- 2\n"
 # One transaction owns a name for good, and another one in each round.
 ROUND = "begin\nlock 1.{0} z\ngraph\ncancel 1.{0}\nlock 1.{0} a\ntry 1.{0} b\nunlock 1.{0} b\nholds 1.{0}\nstatus 1.{0}\nowner a\nlock 1.{0} z\nabort 1.{0}\ntotals\n"
 

@@ -62,22 +62,24 @@ class Drawn(Case):
         self.assertEqual(search.shortest(data, lambda given: given.count(b"x") >= 2 and b"y" in given), b"xxy")
 
     def test_wrong_services(self) -> None:
-        """A service that keeps each wait that shows another's label, and one that hands over in another order, answer otherwise than the model."""
+        """A service that aborts whom it tells of a deadlock, and one that hands over in another order, answer otherwise than the model."""
 
-        class Carries(service.Service):
-            def withdraw(self, process: int) -> bool:
-                return self.table.private(process) == self.table.public(process) and super().withdraw(process)
+        class Aborts(service.Service):
+            def lock(self, key: bytes, name: bytes) -> bytes:
+                reply = super().lock(key, name)
+                if reply.startswith(b"deadlock "):
+                    self.end(self.keys[key])
+                return reply
 
         class Reversed(service.Service):
-            def hand_over(self, process: int, names: list[bytes]) -> list[int]:
+            def hand_over(self, process: int, names: list[bytes]) -> None:
                 before = len(self.caused)
-                granted = super().hand_over(process, names)
+                super().hand_over(process, names)
                 self.caused[before:] = self.caused[before:][::-1]
-                return granted[::-1]
 
-        for kind in Carries, Reversed:
+        for kind in Aborts, Reversed:
             seen = 0
-            for data in search.inputs(REQUESTS, 1, 6_000):
+            for data in search.inputs(REQUESTS, 1, 20_000):
                 wrong = kind(**service.limits_of(data))
                 seen += [reply for line in lines_of(data) for reply in wrong.answer(line)] != REQUESTS.wanted(data)[1].split(b"\n")[:-1]
             self.assertGreater(seen, 2, kind)
@@ -86,7 +88,7 @@ class Drawn(Case):
 KINDS = {
     "scripts": "ok key granted waits free to finished raised still deadlock standing clear aborted withdrawn settled active waiting convicted owner "
     "totals malformed no table Stale NoResource Waiting AlreadyOwns NotOwner Full LabelsExhausted NotWaiting NoVerdict Carried UnderVerdict".split(),
-    "requests": "begun granted held waits deadlock busy unlocked committed aborted later cancelled carried owner free active waiting holds graph totals "
-    "malformed no-transaction must-abort waiting not-waiting name-too-long not-owner names-full transactions-full".split() + ["* granted", "* aborted"],
+    "requests": "begun granted held waits deadlock busy unlocked committed aborted cancelled owner free active waiting holds graph totals "
+    "malformed no-transaction waiting not-waiting name-too-long not-owner names-full transactions-full".split() + ["* granted"],
 }
-KINDS["connections"] = KINDS["requests"] + "operator - cycle not-deadlocked fence no-epoch hello list counts".split() + ["* deadlock"]
+KINDS["connections"] = KINDS["requests"] + "operator - fence no-epoch hello list counts".split() + ["* deadlock", "* aborted"]

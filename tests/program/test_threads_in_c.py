@@ -9,7 +9,7 @@ from program.test_library import HERE, INCLUDE, text_of
 
 SOURCE = f"{HERE}/threads.c"
 TESTS = re.findall(r"^TEST\((\w+)\)", text_of(SOURCE), re.M)
-ROW_STORE = (b"rows 0 and 1 have 0 and 0, after 1 deadlock\nrow 4: the name was not granted in time\n"
+ROW_STORE = (b"rows 0, 1, 6 and 7 have 0, 0, 1 and 1, after 1 deadlock\nrow 4: the name was not granted in time\n"
              b"rows 2, 3 and 4 have 1, 0 and 1\nrow 5: the request was interrupted\n")  # fmt: skip
 LAYER = f"-I{INCLUDE}"
 WRAPPED = "-Wl," + ",".join(f"--wrap={name}" for name in re.findall(r"^WRAP\([^,]+, (\w+),", text_of(SOURCE), re.M))
@@ -23,7 +23,8 @@ class Threads(test_library.LibraryCase):
 
     @each(TESTS)
     def test_plain(self, name: str) -> None:
-        self.passes(run(self.program, name, env={**os.environ, "ROUNDS": "20000" if IS_SLOW else "100"}))
+        slow = {"ROUNDS": "20000", "SAVEPOINTS_FOR": "60"} if IS_SLOW else {}
+        self.passes(run(self.program, name, env={**os.environ, **slow}))
 
     @each(["address,undefined", "thread"])
     def test_sanitized(self, kind: str) -> None:

@@ -22,8 +22,8 @@ locks --names 0|locks --names 65537|locks --transactions 0|locks --transactions 
 locks --seed -1|locks --seed x|locks --names|locks extra|locks --verbose|locks --names 1 --names 2|prove""".replace("\n", "|").split("|")
 TOLD = {
     "script": ["1 to 17592186044415", " 7 LabelsExhausted ", "15 CountsExhausted ", "refused N Name"],
-    "locks": ["* granted K NAME", "* aborted K", "no-transaction", "must-abort", "waiting", "not-waiting", "name-too-long", "not-owner",
-              "names-full", "transactions-full", "labels-full", "counts-full", "operator", "not-deadlocked", "no-epoch", "too-many"],
+    "locks": ["* granted K NAME", "* aborted K", "* more C", "no-transaction", "waiting", "not-waiting", "name-too-long", "not-owner",
+              "names-full", "transactions-full", "labels-full", "counts-full", "operator", "no-epoch", "too-many"],
 }  # fmt: skip
 
 

@@ -53,7 +53,6 @@ struct Thread {
     taken: u8, // the names that it has taken by their words, and has neither given back nor let go
     held: u8,  // the names that its program was told it owns, and has not begun to give back
     is_known: bool,
-    is_victim: bool,
     wakes: u8,       // whom it has to wake
     has_token: bool, // it was woken, and has not seen that yet
 }
@@ -64,7 +63,7 @@ struct State {
     words: [Word; MOST],
     lock: Option<u8>,
     owner: [Option<u8>; MOST],         // in the manager, of each name
-    queue: [[Option<u8>; MOST]; MOST], // who waits for it there, in turn; a victim until it is rolled back
+    queue: [[Option<u8>; MOST]; MOST], // who waits for it there, in turn
     is_ending: bool,                   // no further call begins
 }
 
@@ -101,8 +100,6 @@ impl State {
         }
         owners
     }
-
-    fn victims(&self, threads: &[u8]) -> usize { threads.iter().filter(|&&t| self.threads[t as usize].is_victim).count() }
 
     /// Takes a thread out of a queue.
     fn dequeue(&mut self, name: u8, t: u8) {
@@ -165,7 +162,7 @@ impl Search {
         Ok(())
     }
 
-    /// Each call that a program may begin now. A victim may only be dropped.
+    /// Each call that a program may begin now.
     fn begin_call(&mut self, state: &State, t: u8) {
         let thread = state.threads[t as usize];
         let mut begin = |held: u8, at: At| {
@@ -176,7 +173,7 @@ impl Search {
         if thread.is_known || thread.held != 0 {
             begin(0, At::GiveBack(thread.taken, false, true));
         }
-        if state.is_ending || thread.is_victim && self.fault != "victim_goes_on" {
+        if state.is_ending {
             return;
         }
         for name in 0..self.sizes[1] {
@@ -255,11 +252,10 @@ impl Search {
             }
             At::Read(ask, of) => return self.adopt(new, t, ask, of),
             At::Look(name, how, is_over) => {
-                let is_late = is_over && new.victims(&new.chain(Some(name))) == 0;
-                new.leave(t, if is_late { At::Ready } else { At::Sleep(name, how) });
+                new.leave(t, if is_over { At::Ready } else { At::Sleep(name, how) });
                 if new.owner(name) == Some(t) {
                     new.grant(t, name);
-                } else if is_late && !self.has("cancel_stays_in_queue") {
+                } else if is_over && !self.has("cancel_stays_in_queue") {
                     new.dequeue(name, t);
                 }
             }
@@ -283,9 +279,9 @@ impl Search {
             _ if new.waits_for(t).is_some() => return Err("one that waits asks for a name"),
             None if self.is_full(new) => {}
             Some(owner) if owner != t && ask.how == How::Try => {}
+            Some(owner) if owner != t && self.closes(new, t, ask.name) => {}
             Some(owner) if owner != t => {
-                let is_victim = new.chain(Some(ask.name)).contains(&t);
-                (new.me(t).is_victim, new.me(t).at) = (is_victim, if is_victim { At::Ready } else { At::Sleep(ask.name, ask.how) });
+                new.me(t).at = At::Sleep(ask.name, ask.how);
                 *new.queue[ask.name as usize].iter_mut().find(|waiter| waiter.is_none()).unwrap() = Some(t);
             }
             _ => {
@@ -295,6 +291,9 @@ impl Search {
         }
         Ok(())
     }
+
+    /// Whether the owner of the name waits, directly or over others, for this thread: then the request is refused.
+    fn closes(&self, state: &State, t: u8, name: u8) -> bool { state.chain(Some(name)).contains(&t) && !self.has("closer_waits") }
 
     /// Offers the name of a bucket that was thin to the manager, for the one that had taken it. What is refused is thin again.
     fn adopt(&self, new: &mut State, t: u8, ask: Ask, of: u8) -> Kept {
@@ -316,8 +315,7 @@ impl Search {
             each(new.me(t).taken).for_each(|name| self.let_go(new, t, name));
         }
         if names == ALL {
-            each(ALL).for_each(|name| new.dequeue(name, t));
-            (new.me(t).is_known, new.me(t).is_victim) = (false, false);
+            new.me(t).is_known = false;
         }
         for name in left {
             match new.owner(name) {
@@ -388,10 +386,9 @@ impl Search {
         });
         none_of(&[
             (waits_for.is_some() && state.words.contains(&Word::Thin(t)), "one that waits owns a name thinly"),
-            (waits_for.is_some() != thread.is_victim && sleeps_for.is_none(), "one works, and waits"),
+            (waits_for.is_some() && sleeps_for.is_none(), "one works, and waits"),
             (sleeps_for.is_some_and(|name| waits_for.is_none() && state.owner(name) != Some(t)), "one sleeps, and waits for nothing"),
-            (chain.contains(&t) && state.victims(&chain) != 1, "a cycle of waits has no victim, or two"),
-            (thread.is_victim && !chain.contains(&t), "a victim is on no cycle of waits"),
+            (chain.contains(&t), "one waits for itself"),
         ])
     }
 

@@ -1,12 +1,11 @@
 /* The C library's layer for threads, a promise of its header a test: `threads NAME` runs one, `threads` all. It waits for states and never for a
- * time; an alarm ends what hangs. Calls of the C library, and two of the desk, come here first by -Wl,--wrap. */
+ * time; an alarm ends what hangs. Calls of the C library, and one of the desk, come here first by -Wl,--wrap. */
 #define _POSIX_C_SOURCE 200809L
 #include "pashkure_desk.h"
 #include "pashkure_threads.h"
 
 #include "check.h"
 
-#include <errno.h>
 #include <pthread.h>
 #include <sched.h>
 #include <signal.h>
@@ -21,9 +20,9 @@ static pashkure_locks *locks;
 static pashkure_key a, b, c, d, e, *const KEYS[] = {&a, &b, &c, &d, &e}, KEPT[12];
 static bool is_counting;
 static unsigned long requests, frees, bytes, refused; /* while `is_counting`. `refused`: this request for memory is refused, counted from 1 */
-static atomic_int carried, missed, timed;             /* timed: how many sleeps with a time have begun */
+static atomic_int missed, timed;                      /* timed: how many sleeps with a time have begun */
 static int portion, largest;                          /* how many names the desk was given back since somebody had the mutex, and how many at most */
-static atomic_bool is_late, is_signalled, has_time;
+static atomic_bool is_late, is_signalled;
 static struct timespec untils[2]; /* of the last two sleeps with a time */
 
 /* A function in place of another one, which is __real_.. here. */
@@ -48,13 +47,6 @@ WRAP(void, free, void *memory)
 {
     frees += is_counting && memory != NULL;
     __real_free(memory);
-}
-
-WRAP(pashkure_result, pashkure_desk_cancel, pashkure_desk *desk, uint32_t slot)
-{
-    pashkure_result told = __real_pashkure_desk_cancel(desk, slot);
-    carried += told == PASHKURE_CARRIED;
-    return told;
 }
 
 WRAP(pashkure_result, pashkure_desk_unlock, pashkure_desk *desk, pashkure_worker *worker, const void *name, size_t length)
@@ -87,14 +79,13 @@ WRAP(int, pthread_cond_wait, pthread_cond_t *news, pthread_mutex_t *mutex)
     return told;
 }
 
-/* While `has_time` no time is over: a thread is woken without a reason, as it may be. */
 WRAP(int, pthread_cond_timedwait, pthread_cond_t *news, pthread_mutex_t *mutex, const struct timespec *until)
 {
     timed++;
     int told = __real_pthread_cond_timedwait(news, mutex, until);
     untils[0] = untils[1];
     untils[1] = *until;
-    return told == ETIMEDOUT && has_time ? 0 : told;
+    return told;
 }
 
 static pashkure_key begun(void)
@@ -234,7 +225,7 @@ TEST(memory)
     requests = frees = bytes = 0;
     config.buckets = 1000;
     GIVES(pashkure_locks_open(&locks, &config), PASHKURE_OK);
-    CHECK(bytes - of_core < 24 * config.buckets + 12 * config.names + 2500 * config.transactions);
+    CHECK(bytes - of_core < 24 * config.buckets + 12 * config.names + 4100 * config.transactions);
     wanted = requests, of_opening = frees;
     for (int i = 0; i < 100; i++) {
         a = begun(), b = begun();
@@ -330,57 +321,127 @@ TEST(time_out)
     shut();
 }
 
-/* The victim is b; a waits for it, and c and d wait behind a. */
+static bool is_wait(const pashkure_wait *wait, pashkure_key key, const char *name, pashkure_key holder)
+{
+    return wait->key.slot == key.slot && wait->key.generation == key.generation && wait->holder.slot == holder.slot
+           && wait->holder.generation == holder.generation && wait->length == strlen(name) && memcmp(wait->name, name, wait->length) == 0;
+}
+
+/* b is told. It keeps what it owns and goes on; a waits for it, until it gives y back. */
 TEST(deadlock)
 {
-    struct sleeper given, timed, both;
-    opened(5, 8);
-    has_time = true;
-    starts(&timed, c, "x", SHORT);
-    starts(&both, d, "x", SHORT);
+    struct sleeper given;
+    pashkure_wait waits[3];
+    opened(2, 8);
+    ends(b);
+    b = begun(); /* the desk has another generation of it */
+    CHECK(b.generation == 2);
+    GIVES(lock(b, "y", 0), PASHKURE_OK);
+    CHECK(pashkure_locks_cycle(locks, b, NULL, 0) == 0);
     starts(&given, a, "y", PASHKURE_FOREVER);
+    CHECK(pashkure_locks_cycle(locks, a, waits, 3) == 0); /* it is in a call */
     GIVES(lock(b, "x", PASHKURE_FOREVER), PASHKURE_DEADLOCK);
-    interrupted(b);
-    GIVES(lock(b, "z", 0), PASHKURE_MUST_ABORT);
-    GIVES(pashkure_locks_commit(locks, b), PASHKURE_MUST_ABORT);
-    has_time = false;
-    while (carried < 2)
-        sched_yield(); /* the times are over */
-    interrupted(d);
-    interrupted(a);
-    ends(e);
-    CHECK(carried == 4 && state(a) == PASHKURE_WAITS && state(c) == PASHKURE_WAITS && state(d) == PASHKURE_WAITS);
-    GIVES(pashkure_locks_abort(locks, b), PASHKURE_OK);
-    GIVES(result_of(&timed), PASHKURE_TIMED_OUT);
-    GIVES(result_of(&both), PASHKURE_INTERRUPTED); /* though its time was over before */
+    CHECK(state(b) == PASHKURE_OK && state(a) == PASHKURE_WAITS);
+    CHECK(pashkure_locks_cycle(locks, b, NULL, 0) == 2 && pashkure_locks_cycle(locks, b, waits, 3) == 2);
+    CHECK(is_wait(&waits[0], b, "x", a) && is_wait(&waits[1], a, "y", b));
+    GIVES(lock(b, "x", LONG), PASHKURE_DEADLOCK); /* again, since it gave nothing back */
+    GIVES(lock(b, "x", 0), PASHKURE_BUSY);
+    GIVES(lock(b, "z", 0), PASHKURE_OK);
+    GIVES(pashkure_locks_unlock(locks, b, "y", 1), PASHKURE_OK);
     GIVES(result_of(&given), PASHKURE_OK);
-    GIVES(lock(a, "z", 0), PASHKURE_INTERRUPTED);
-    GIVES(lock(d, "z", 0), PASHKURE_OK);
-    GIVES(lock(c, "x", 0), PASHKURE_BUSY);
+    waits[1].length = 0;
+    CHECK(pashkure_locks_cycle(locks, b, waits, 1) == 2 && waits[1].length == 0); /* of the last one, also when it is over */
+    GIVES(pashkure_locks_commit(locks, b), PASHKURE_OK);
+    CHECK(pashkure_locks_cycle(locks, b, waits, 3) == 0);
+    b = begun();
+    CHECK(pashkure_locks_cycle(locks, b, waits, 3) == 0);
     shut();
 }
 
-/* A time that is over behind a victim, whose abort grants the name: nothing is left of that time then. */
-TEST(behind_a_victim)
+/* Those that wait for one that was told of a deadlock time out and are interrupted at once: it does nothing meanwhile. */
+TEST(behind_a_deadlock)
 {
-    struct sleeper given, timed;
-    int before = carried;
+    struct sleeper given, interrupts;
+    struct note told = {0};
     opened(4, 8);
-    GIVES(lock(d, "w", 0), PASHKURE_OK);
-    has_time = true;
-    starts(&timed, c, "w", SHORT);
-    starts(&given, a, "w", PASHKURE_FOREVER);
-    GIVES(lock(d, "x", PASHKURE_FOREVER), PASHKURE_DEADLOCK);
-    has_time = false;
-    while (carried == before)
-        sched_yield();
-    GIVES(pashkure_locks_abort(locks, d), PASHKURE_OK);
-    GIVES(result_of(&timed), PASHKURE_OK);
-    GIVES(lock(c, "z", 0), PASHKURE_OK);
-    ends(c);
-    GIVES(result_of(&given), PASHKURE_OK);
-    c = begun();
+    starts(&given, a, "y", LONG);
+    GIVES(ask(d, "x", &told), PASHKURE_WAITS);
+    GIVES(lock(b, "x", LONG), PASHKURE_DEADLOCK);
+    GIVES(lock(c, "y", SHORT), PASHKURE_TIMED_OUT);
     GIVES(lock(c, "x", SHORT), PASHKURE_TIMED_OUT);
+    interrupted(d);
+    CHECK(told.calls == 1 && told.result == PASHKURE_INTERRUPTED);
+    interrupted(a);
+    GIVES(result_of(&given), PASHKURE_INTERRUPTED);
+    interrupted(b);
+    GIVES(lock(b, "z", 0), PASHKURE_INTERRUPTED);
+    starts(&interrupts, b, "x", LONG); /* nobody waits for b any more */
+    ends(a);
+    GIVES(result_of(&interrupts), PASHKURE_OK);
+    shut();
+}
+
+/* So many transactions own a name each, of so many bytes, and ask for that of the next one. Returns how many waits the last one is told of; whether
+ * they come back to it is written. */
+static size_t ring(uint32_t size, size_t length, bool *is_whole)
+{
+    static char names[20][1024];
+    pashkure_config config = PASHKURE_CONFIG;
+    pashkure_key keys[20];
+    pashkure_wait waits[20];
+    struct note told[20] = {{0}};
+    size_t count;
+    config.name_bytes = 1024;
+    GIVES(pashkure_locks_open(&locks, &config), PASHKURE_OK);
+    for (uint32_t i = 0; i < size; i++) {
+        memset(names[i], 'a' + (char)i, length);
+        keys[i] = begun();
+        GIVES(pashkure_locks_lock(locks, keys[i], names[i], length, 0), PASHKURE_OK);
+    }
+    for (uint32_t i = 0; i + 1 < size; i++)
+        GIVES(pashkure_locks_ask(locks, keys[i], names[i + 1], length, notes, &told[i]), PASHKURE_WAITS);
+    GIVES(pashkure_locks_ask(locks, keys[size - 1], names[0], length, notes, &told[size - 1]), PASHKURE_DEADLOCK);
+    count = pashkure_locks_cycle(locks, keys[size - 1], waits, 20);
+    for (size_t i = 0; i < count; i++) {
+        const size_t wanted = i == 0 ? size - 1 : i - 1, next = (wanted + 1) % size;
+        CHECK(waits[i].key.slot == keys[wanted].slot && waits[i].holder.slot == keys[next].slot);
+        CHECK(waits[i].length == length && memcmp(waits[i].name, names[next], length) == 0);
+    }
+    *is_whole = waits[count - 1].holder.slot == keys[size - 1].slot;
+    for (uint32_t i = size; i-- > 0;) /* each one's end wakes the one before it */
+        ends(keys[i]);
+    GIVES(pashkure_locks_close(locks), PASHKURE_OK);
+    return count;
+}
+
+TEST(cycles)
+{
+    bool is_whole;
+    CHECK(ring(2, 5, &is_whole) == 2 && is_whole);
+    CHECK(ring(16, 64, &is_whole) == 16 && is_whole);
+    CHECK(ring(17, 5, &is_whole) == 16 && !is_whole);
+    CHECK(ring(2, 512, &is_whole) == 2 && is_whole);
+    CHECK(ring(3, 512, &is_whole) == 2 && !is_whole);
+    CHECK(ring(2, 1024, &is_whole) == 1 && !is_whole);
+}
+
+/* One of the two gives back what it locked since its savepoint, and nothing else: both commit. */
+TEST(savepoint)
+{
+    struct sleeper first, second;
+    opened(2, 8);
+    GIVES(lock(b, "w", 0), PASHKURE_OK); /* y is before the savepoint, and w behind it */
+    starts(&first, a, "w", PASHKURE_FOREVER);
+    GIVES(lock(b, "x", PASHKURE_FOREVER), PASHKURE_DEADLOCK);
+    GIVES(pashkure_locks_unlock(locks, b, "w", 1), PASHKURE_OK);
+    GIVES(result_of(&first), PASHKURE_OK);
+    GIVES(lock(b, "y", 0), PASHKURE_HELD);
+    starts(&second, b, "x", PASHKURE_FOREVER);
+    ends(a);
+    GIVES(result_of(&second), PASHKURE_OK);
+    GIVES(lock(b, "w", 0), PASHKURE_OK);
+    ends(b);
+    CHECK(totals().committed == 2 && totals().aborted == 0 && totals().deadlocks == 1);
     shut();
 }
 
@@ -621,9 +682,10 @@ TEST(slots)
     GIVES(pashkure_locks_close(locks), PASHKURE_OK);
 }
 
-enum { MOST_THREADS = 64, MOST_NAMES = 1000 };
+enum { MOST_THREADS = 100, MOST_NAMES = 1000 };
 static struct {
     int threads, names, rounds;
+    time_t until; /* so long each thread makes more rounds */
 } of;
 static int in_hands[MOST_NAMES]; /* plain: a name in two hands is a race */
 static _Atomic(pashkure_key) now[MOST_THREADS];
@@ -667,42 +729,92 @@ static void *works(void *argument)
             sched_yield();
         }
         CHECK(!PASHKURE_IS_REFUSAL(told));
-        if (count > 1 && told != PASHKURE_DEADLOCK) {
+        if (count > 1) {
             CHECK(--in_hands[mine[--count]] == 0);
             GIVES(pashkure_locks_unlock(locks, key, &mine[count], sizeof *mine), PASHKURE_OK);
         }
         while (count > 0)
             CHECK(--in_hands[mine[--count]] == 0);
-        GIVES(PASHKURE_OWNS(told) ? pashkure_locks_commit(locks, key) : pashkure_locks_abort(locks, key), PASHKURE_OK);
+        GIVES(PASHKURE_OWNS(told) || rand_r(&random) % 2 ? pashkure_locks_commit(locks, key) : pashkure_locks_abort(locks, key), PASHKURE_OK);
     }
     return NULL;
 }
 
 /* No name is in two hands. */
-static void come(int count, int of_names, int of_rounds)
+static pashkure_counts come(int count, int of_names, int of_rounds, void *(*does)(void *))
 {
     pthread_t threads[MOST_THREADS];
     pashkure_counts counts;
     of.threads = count, of.names = of_names, of.rounds = of_rounds;
     opens((uint32_t)count, MOST_NAMES);
     for (int i = 0; i < count; i++)
-        CHECK(pthread_create(&threads[i], NULL, works, (void *)&now[i]) == 0);
+        CHECK(pthread_create(&threads[i], NULL, does, (void *)&now[i]) == 0);
     for (int i = 0; i < count; i++)
         CHECK(pthread_join(threads[i], NULL) == 0);
     counts = totals();
-    CHECK(counts.begun == (uint64_t)count * (uint64_t)of_rounds && counts.begun == counts.committed + counts.aborted);
+    CHECK(counts.begun == counts.committed + counts.aborted);
     GIVES(pashkure_locks_close(locks), PASHKURE_OK);
+    return counts;
 }
 
 TEST(crowd)
 {
-    come(8, 8, 1000);
+    CHECK(come(8, 8, 1000, works).begun == 8000);
+}
+
+static int rounds_of(int usual)
+{
+    const char *rounds = getenv("ROUNDS");
+    return rounds == NULL ? usual : atoi(rounds);
 }
 
 TEST(large_crowd)
 {
-    const char *rounds = getenv("ROUNDS");
-    come(64, 1000, rounds == NULL ? 100 : atoi(rounds));
+    const int rounds = rounds_of(100);
+    CHECK(come(64, 1000, rounds, works).begun == 64ul * (unsigned long)rounds);
+}
+
+/* Gives back what was locked since a savepoint, which is how many names were owned then. */
+static void rolls_back_to(pashkure_key key, const int *mine, int *count, int savepoint)
+{
+    while (*count > savepoint) {
+        const int name = mine[--*count];
+        CHECK(--in_hands[name] == 0);
+        GIVES(pashkure_locks_unlock(locks, key, &name, sizeof name), PASHKURE_OK);
+    }
+}
+
+/* Transactions of four names, in any order, none of which ever aborts: after a deadlock it goes back by one name, after the next one by two, and
+ * so on, until it has all. */
+static void *goes_back(void *argument)
+{
+    unsigned random = (unsigned)((_Atomic(pashkure_key) *)argument - now) + 1;
+    for (int round = 0; round < of.rounds || time(NULL) < of.until; round++) {
+        const pashkure_key key = begun();
+        int mine[4], count = 0, deadlocks = 0;
+        while (count < 4) {
+            const int name = rand_r(&random) % of.names;
+            const pashkure_result told = pashkure_locks_lock(locks, key, &name, sizeof name, PASHKURE_FOREVER);
+            if (told == PASHKURE_OK)
+                CHECK(in_hands[mine[count++] = name]++ == 0);
+            if (told != PASHKURE_DEADLOCK)
+                continue;
+            rolls_back_to(key, mine, &count, count > ++deadlocks ? count - deadlocks : 0);
+            for (unsigned pause = (unsigned)rand_r(&random) % 64; pause > 0; pause--)
+                sched_yield();
+        }
+        while (count > 0)
+            CHECK(--in_hands[mine[--count]] == 0);
+        ends(key);
+    }
+    return NULL;
+}
+
+TEST(savepoints)
+{
+    const char *seconds = getenv("SAVEPOINTS_FOR");
+    of.until = seconds == NULL ? 0 : time(NULL) + atoi(seconds);
+    CHECK(come(100, 400, 20, goes_back).aborted == 0);
 }
 
 #if defined(__SANITIZE_ADDRESS__) || defined(__SANITIZE_THREAD__)
@@ -737,7 +849,9 @@ static const struct test TESTS[] = {
     ROW(order_of_sleepers),
     ROW(time_out),
     ROW(deadlock),
-    ROW(behind_a_victim),
+    ROW(behind_a_deadlock),
+    ROW(cycles),
+    ROW(savepoint),
     ROW(interrupt),
     ROW(several_names),
     ROW(wake_calls),
@@ -747,6 +861,7 @@ static const struct test TESTS[] = {
     ROW(slots),
     ROW(crowd),
     ROW(large_crowd),
+    ROW(savepoints),
     ROW(many_names),
 };
 

@@ -115,7 +115,7 @@ static const struct {
     {pashkure_remote_ask, NULL, "lock 0.1 a\n", "granted\n", IS(OK)},
     {pashkure_remote_ask, NULL, "lock 0.1 a\n", "held\n", IS(HELD)},
     {pashkure_remote_ask, NULL, "lock 0.1 a\n", "waits 1.1\n", IS(WAITS)},
-    {pashkure_remote_ask, NULL, "lock 0.1 a\n", "deadlock 1.1\n", IS(DEADLOCK)},
+    {pashkure_remote_ask, NULL, "lock 0.1 a\n", "deadlock 1.1 b\n", IS(DEADLOCK)},
     {pashkure_remote_lock, NULL, "lock 0.1 a\n", "held\n", IS(HELD)},
     {pashkure_remote_try_lock, NULL, "try 0.1 a\n", "granted\n", IS(OK)},
     {pashkure_remote_try_lock, NULL, "try 0.1 a\n", "held\n", IS(HELD)},
@@ -123,9 +123,7 @@ static const struct {
     {pashkure_remote_unlock, NULL, "unlock 0.1 a\n", "unlocked\n", IS(OK)},
     {NULL, pashkure_remote_commit, "commit 0.1\n", "committed\n", IS(OK)},
     {NULL, pashkure_remote_abort, "abort 0.1\n", "aborted\n", IS(OK)},
-    {NULL, pashkure_remote_abort, "abort 0.1\n", "later\n", IS(LATER)},
     {NULL, pashkure_remote_cancel, "cancel 0.1\n", "cancelled\n", IS(OK)},
-    {NULL, pashkure_remote_cancel, "cancel 0.1\n", "carried\n", IS(CARRIED)},
     {NULL, pashkure_remote_wait, "status 0.1\n", "active\n", IS(OK)},
 };
 #define WORDS (sizeof words / sizeof *words)
@@ -152,8 +150,7 @@ static void test_words(void)
 static void test_refusals(void)
 {
     static const char *const refusals[85] = {[16] = "no-transaction",
-        "must-abort",
-        "waiting",
+        [18] = "waiting",
         "not-waiting",
         [21] = "name-too-long",
         "not-owner",
@@ -164,8 +161,7 @@ static void test_refusals(void)
         [65] = "of-another-time",
         [80] = "operator",
         "no-epoch",
-        "not-deadlocked",
-        "too-many",
+        [83] = "too-many",
         "connections-full"};
     char line[64];
     int number;
@@ -198,7 +194,6 @@ static void test_other_openings(void)
         GIVES(NO_TRANSACTION, pashkure_remote_lock_all(&here, others[other], names, 2, 0, &place));
         GIVES(NO_TRANSACTION, pashkure_remote_status_of(&here, others[other], &status));
         GIVES(NO_TRANSACTION, pashkure_remote_holds(&here, others[other], NULL, NULL));
-        GIVES(NO_TRANSACTION, pashkure_remote_cycle(&here, others[other], NULL, NULL));
         GIVES(NO_TRANSACTION, pashkure_remote_fence_of(&here, others[other], "a", &fence));
     }
     GIVES(OK, pashkure_remote_lock(&here, first, "a"));
@@ -245,11 +240,11 @@ static void test_waits(void)
     GIVES(LOST, pashkure_remote_lock(&here, first, "a"));
     answered("waits 1.1\n* granted 0.", true);
     GIVES(LOST, pashkure_remote_lock(&here, first, "a"));
-    replies("* granted 0.1 a\nactive\nwaiting a 1.1\n* granted 0.1 a\nwaiting a 1.1 aborting\n* aborted 0.1\ndeadlock a 1.1\n");
+    replies("* granted 0.1 a\nactive\nwaiting a 1.1\n* granted 0.1 a\nwaiting a 1.1\n* aborted 0.1\ndeadlock a 1.1\n");
     GIVES(OK, pashkure_remote_wait(&here, first));
     GIVES(OK, pashkure_remote_wait(&here, first));
     GIVES(ABORTED, pashkure_remote_wait(&here, first));
-    GIVES(MUST_ABORT, pashkure_remote_wait(&here, first));
+    GIVES(PROTOCOL, pashkure_remote_wait(&here, first));
 }
 
 /* Several names: where it stops, and what is sent for them, and for the rest after a grant. */
@@ -261,17 +256,20 @@ static void test_several(void)
         pashkure_remote_result result;
         size_t place;
     } rows[] = {
-        {"refused must-abort\n", "", IS(MUST_ABORT), 0},
+        {"refused waiting\n", "", IS(WAITING), 0},
         {"granted\n", "", IS(OK), 3}, /* these two are no replies behind `begun K` */
-        {"deadlock 2 1.1\n", "", IS(DEADLOCK), 2},
+        {"deadlock 2 1.1 x\n", "", IS(DEADLOCK), 2},
         {"refused 1 names-full\n", "", IS(NAMES_FULL), 1},
         {"waits 0 1.1\n* granted 0.1 a\nwaits 0 1.1\n* granted 0.1 b\nheld\n", "lock 0.1 b c\nlock 0.1 c\n", IS(OK), 3},
         {"waits 1 1.1\n* granted 0.1 b\nwaits 1.1\n* granted 0.1 c\n", "lock 0.1 c\n", IS(OK), 3},
         {"waits 1 1.1\n* granted 0.1 b\nrefused names-full\n", "lock 0.1 c\n", IS(NAMES_FULL), 2},
-        {"waits 1 1.1\n* granted 0.1 b\ndeadlock 1.1\n", "lock 0.1 c\n", IS(DEADLOCK), 2},
+        {"waits 1 1.1\n* granted 0.1 b\ndeadlock 1.1 x 2.1 y ..\n", "lock 0.1 c\n", IS(DEADLOCK), 2},
         {"waits 1 1.1\n* aborted 0.1\n", "", IS(ABORTED), 1},
         {"waits 3 1.1\n", "", IS(PROTOCOL), 0},
         {"waits 1.1\n", "", IS(PROTOCOL), 0},
+        {"deadlock 1.1 x\n", "", IS(PROTOCOL), 0},
+        {"deadlock 3 1.1 x\n", "", IS(PROTOCOL), 0},
+        {"deadlock 2 1.1\n", "", IS(PROTOCOL), 0},
         {"refused 3 names-full\n", "", IS(PROTOCOL), 0},
         {"refused 1x names-full\n", "", IS(PROTOCOL), 0},
         {"refused 1\n", "", IS(PROTOCOL), 0},
@@ -322,7 +320,6 @@ static void test_many_names(void)
 
 static void test_reads(void)
 {
-    static const pashkure_remote_mode modes[] = {IS(IS_ACTIVE), IS(IS_WAITING), IS(IS_WAITING), IS(IS_DEADLOCKED)};
     pashkure_remote_transaction owner;
     pashkure_remote_status status;
     pashkure_remote_counts counts;
@@ -330,16 +327,16 @@ static void test_reads(void)
     pashkure_remote_service service;
     char text[PASHKURE_REMOTE_FENCE_BYTES];
     size_t row;
-    replies("owner 7.3\nfree\nactive\nwaiting a 1.1\nwaiting a 1.1 aborting\ndeadlock a 1.1\ntotals 4 3 2 18446744073709551615\n"
+    replies("owner 7.3\nfree\nactive\nwaiting a 1.1\ntotals 4 3 2 18446744073709551615\n"
             "counts 1 2 3 4 5 6 7 8 9 of-a-later-version-and-longer-than-any-word 1\nfence 9223372036854775807 42\nhello 2 7 65536 1024 64 later\n");
     GIVES(OK, pashkure_remote_owner(&here, "a", &owner));
     CHECK(same(owner, KEY(7, 3)));
     GIVES(FREE, pashkure_remote_owner(&here, "a", &owner));
     CHECK(same(owner, NOBODY));
-    for (row = 0; row < 4; row++) {
+    for (row = 0; row < 2; row++) {
         bool waits = row > 0;
         GIVES(OK, pashkure_remote_status_of(&here, first, &status));
-        CHECK(status.mode == modes[row] && status.is_aborting == (row == 2));
+        CHECK(status.mode == (waits ? IS(IS_WAITING) : IS(IS_ACTIVE)));
         CHECK(strcmp(status.name, waits ? "a" : "") == 0 && same(status.holder, waits ? KEY(1, 1) : NOBODY));
     }
     GIVES(OK, pashkure_remote_totals(&here, &counts));
@@ -353,13 +350,15 @@ static void test_reads(void)
     pashkure_remote_fence_text((pashkure_remote_fence){UINT64_MAX, UINT64_MAX}, text);
     GIVES(OK, pashkure_remote_hello(&here, &service));
     CHECK(service.epoch == 7 && service.transactions == 65536 && service.names == 1024 && service.name_bytes == 64);
-    CHECK(sent("owner a\nowner a\nstatus 0.1\nstatus 0.1\nstatus 0.1\nstatus 0.1\ntotals\ncounts\nfence 0.1 a\nhello\n"));
+    CHECK(sent("owner a\nowner a\nstatus 0.1\nstatus 0.1\ntotals\ncounts\nfence 0.1 a\nhello\n"));
     for (row = 0; row < 2; row++) {
         replies(row == 0 ? "hello 1 7 65536 1024 64\n" : "hello 3\n");
         GIVES(OTHER_PROTOCOL, pashkure_remote_hello(&here, &service));
     }
     replies("fence 1 9223372036854775808\n");
     GIVES(PROTOCOL, pashkure_remote_fence_of(&here, first, "a", &fence));
+    replies("waiting a 1.1 later\n");
+    GIVES(PROTOCOL, pashkure_remote_status_of(&here, first, &status));
 }
 
 static void add_name(void *context, const char *name)
@@ -383,24 +382,21 @@ static void test_lists(void)
 {
     char text[256] = "", told[256] = "";
     pashkure_remote_on_deadlock(&here, add_wait, told);
-    replies(
-        "holds\nholds a b c\n* granted 5.1 x\ngraph 0\ngraph 2\n* 0.1 a 1.1\n* 1.1 b 2.1\n* deadlock 3.1 x 4.1 y\ncycle 0.1 a 1.1 b\n"
-        "* granted 6.1 x\ncycle 0.1 a 1.1 b 2.1 c ..\nlist 0\nlist 3\n* 0.1 1 active 7 later\n* 1.1 - waiting a 0.1 aborting later\n* 2.1 3 deadlock b 0.1 of-a-later-version-and-longer-than-any-word\n"
-        "* deadlock 5.1 a ..\nfree\n");
+    replies("holds\nholds a b c\n* granted 5.1 x\ngraph 0\ngraph 2\n* 0.1 a 1.1\n* 1.1 b 2.1\n* deadlock 3.1 x 4.1 y\nlist 0\n"
+            "list 3\n* 0.1 1 active 7 later\n* 1.1 2 waiting a 0.1 later\n* 2.1 3 waiting b 0.1 of-a-later-version-and-longer-than-any-word\n"
+            "* deadlock 5.1 a 6.1 b ..\nfree\n");
     GIVES(OK, pashkure_remote_holds(&here, first, add_name, text));
     GIVES(OK, pashkure_remote_holds(&here, first, add_name, text));
     GIVES(OK, pashkure_remote_graph(&here, add_wait, text));
     GIVES(OK, pashkure_remote_graph(&here, add_wait, text));
     CHECK(strcmp(text, "a b c 0-a-1 1-b-2 ") == 0);
     text[0] = '\0';
-    GIVES(OK, pashkure_remote_cycle(&here, first, add_wait, text));
+    GIVES(OK, pashkure_remote_list(&here, add_live, text));
     CHECK(strcmp(told, "3-x-4 4-y-3 ") == 0);
-    GIVES(OK, pashkure_remote_cycle(&here, first, add_wait, text));
     GIVES(OK, pashkure_remote_list(&here, add_live, text));
-    GIVES(OK, pashkure_remote_list(&here, add_live, text));
-    CHECK(strcmp(text, "0-a-1 1-b-0 0-a-1 1-b-2 2-c-0? 0:1:0 1:0:1a 2:3:2b ") == 0);
+    CHECK(strcmp(text, "0:1:0 1:2:1a 2:3:1b ") == 0);
     GIVES(FREE, pashkure_remote_owner(&here, "a", &NOBODY));
-    CHECK(strcmp(told, "3-x-4 4-y-3 5-a-0? ") == 0);
+    CHECK(strcmp(told, "3-x-4 4-y-3 5-a-6 6-b-0? ") == 0);
     replies("* aborted 1.1\n* deadlock 3.1 x 4.1 y\n");
     GIVES(OK, pashkure_remote_listen(&here, PASHKURE_REMOTE_FOREVER));
     GIVES(TIMED_OUT, pashkure_remote_listen(&here, 1));
@@ -414,12 +410,31 @@ static void test_lists(void)
     GIVES(PROTOCOL, pashkure_remote_list(&here, add_live, text));
 }
 
+/* The waits of a deadlock are told as the reply is read: the one that was refused, and those of the reply. */
+static void test_cycles(void)
+{
+    static const char *const names[] = {"b", "c"};
+    char told[256] = "";
+    size_t place;
+    pashkure_remote_on_deadlock(&here, add_wait, told);
+    replies("* granted 6.1 x\ndeadlock 1.1 x\n* deadlock 3.1 x 4.1 y\ndeadlock 1 2.1 y 3.1 z 4.1 .. ..\ndeadlock 4.1 w\n");
+    GIVES(DEADLOCK, pashkure_remote_lock(&here, first, "a"));
+    CHECK(strcmp(told, "0-a-1 1-x-0 ") == 0);
+    told[0] = '\0';
+    GIVES(DEADLOCK, pashkure_remote_lock_all(&here, first, names, 2, PASHKURE_REMOTE_FOREVER, &place));
+    CHECK(place == 1 && strcmp(told, "3-x-4 4-y-3 0-c-2 2-y-3 3-z-4 4-..-0? ") == 0);
+    pashkure_remote_on_deadlock(&here, NULL, NULL);
+    GIVES(DEADLOCK, pashkure_remote_ask(&here, first, "a"));
+    CHECK(strcmp(told, "3-x-4 4-y-3 0-c-2 2-y-3 3-z-4 4-..-0? ") == 0 && sent("lock 0.1 a\nlock 0.1 b c\nlock 0.1 a\n"));
+}
+
 static void test_bad_replies(void)
 {
     static const char *const bad[] = {"\n", "hello\n", "committed\n", "granted again\n", "waits\n", "waits 1.1 2.1\n", "refused\n", "refused a b\n",
         "* moved 0.1 a\n", "* granted 1.1\n", "* aborted 1.1 a\n", "*\n", "waits 1.1\ngranted\n", "waits 123456789012345678901234567890\n",
         "waits 1\n", "waits 1.\n", "waits 1.4294967296\n", "waits 1.1x\n", "waits 1.-1\n", "malformed\n", "* deadlock 1.1 a 1.1\n",
-        "* deadlock 1.1\n", "* deadlock 1.1 a .. b\n", "refused 0 names-full\n"};
+        "* deadlock 1.1\n", "* deadlock 1.1 a .. b\n", "refused 0 names-full\n", "deadlock\n", "deadlock 1.1\n", "deadlock 1.1 a 2.1\n",
+        "deadlock 1.1 a .. ..\n", "deadlock .. a\n", "deadlock 0 1.1 a\n"};
     size_t place;
     for (place = 0; place < sizeof bad / sizeof *bad; place++) {
         replies(bad[place]);
@@ -459,28 +474,26 @@ static void test_time_outs(void)
     GIVES(LOST, pashkure_remote_lock_for(&here, first, "a", 1)); /* and SIGPIPE does not end the program */
     replies("granted\n");
     GIVES(OK, pashkure_remote_lock_for(&here, first, "a", 0));
-    replies("deadlock 1.1\n");
+    replies("deadlock 1.1 x\n");
     GIVES(DEADLOCK, pashkure_remote_lock_for(&here, first, "a", 0));
     replies("waits 1.1\n* granted 0.1 a\n");
     GIVES(OK, pashkure_remote_lock_for(&here, first, "a", 0));
     CHECK(sent("lock 0.1 a\n"));
 }
 
-/* The time of a lock is up: the wait is taken back, again and again while it may not be. Each turn of the other end comes after a request. */
+/* The time of a lock is up: the wait is taken back, unless it ended before. Each turn of the other end comes after a request. */
 static void test_taken_back(void)
 {
 #define LOCKED                                                                                                                                       \
     {                                                                                                                                                \
         "lock 0.1 a\n", "waits 1.1\n"                                                                                                                \
     }
-    static const struct turn back[] = {LOCKED, {"cancel 0.1\n", "carried\n"}, {"cancel 0.1\n", "carried\n"}, {"cancel 0.1\n", "cancelled\n"}, {0, 0}};
-    static const struct turn granted[] = {LOCKED, {"cancel 0.1\n", "* granted 0.1 a\nrefused not-waiting\n"}, {0, 0}};
-    static const struct turn late[] = {LOCKED, {"cancel 0.1\n", "carried\n* granted 2.1 b\n* granted 0.1 a\n"}, {0, 0}};
-    static const struct turn over[] = {LOCKED, {"cancel 0.1\n", "carried\n* aborted 0.1\n"}, {0, 0}};
-    static const struct turn gone[] = {LOCKED, {"cancel 0.1\n", "carried\n"}, {0, 0}};
+    static const struct turn back[] = {LOCKED, {"cancel 0.1\n", "cancelled\n"}, {0, 0}};
+    static const struct turn granted[] = {LOCKED, {"cancel 0.1\n", "* granted 2.1 b\n* granted 0.1 a\nrefused not-waiting\n"}, {0, 0}};
+    static const struct turn over[] = {LOCKED, {"cancel 0.1\n", "* aborted 0.1\nrefused no-transaction\n"}, {0, 0}};
+    static const struct turn gone[] = {LOCKED, {"cancel 0.1\n", "cancel"}, {0, 0}};
     GIVES(TIMED_OUT, after_turns(back, 0));
     GIVES(OK, after_turns(granted, 1));
-    GIVES(OK, after_turns(late, 0));
     GIVES(ABORTED, after_turns(over, 0));
     GIVES(LOST, after_turns(gone, 0));
 }
@@ -524,11 +537,10 @@ static void test_looks(void)
 /* A message for each result, each another one, which names what there is none left of. */
 static void test_messages(void)
 {
-    static const char *const parts[86] = {"done", "owned the name before", "waits for the name", "cycle", "another transaction owns", "as soon as",
-        "cannot be taken back", "nobody owns", "aborted while", "in time", [16] = "has ended", "to be aborted", "the transaction waits",
+    static const char *const parts[86] = {"done", "owned the name before", "waits for the name", "cycle",
+        "another transaction owns", [7] = "nobody owns", "aborted while", "in time", [16] = "has ended", [18] = "the transaction waits",
         "does not wait", [21] = "longer", "does not own", "transactions", "names", "wait", "counted", [32] = "is closed", "is open", [64] = "lost",
-        "does not understand", "no connection", "control", [80] = "operator", "epoch", "no deadlock", "more names", "clients",
-        "restart the service first"};
+        "does not understand", "no connection", "control", [80] = "operator", "epoch", [83] = "more names", "clients", "restart the service first"};
     int place, other;
     for (place = 0; place < 86; place++) {
         const char *message = pashkure_remote_message((pashkure_remote_result)place);
@@ -541,8 +553,8 @@ static void test_messages(void)
 int main(int count, char *words[])
 {
     static const struct test tests[] = {TEST(words), TEST(refusals), TEST(other_openings), TEST(names), TEST(waits), TEST(several), TEST(many_names),
-        TEST(reads), TEST(lists), TEST(bad_replies), TEST(closed), TEST(time_outs), TEST(taken_back), TEST(long_time), TEST(short_time), TEST(looks),
-        TEST(messages)};
+        TEST(reads), TEST(lists), TEST(cycles), TEST(bad_replies), TEST(closed), TEST(time_outs), TEST(taken_back), TEST(long_time), TEST(short_time),
+        TEST(looks), TEST(messages)};
     there = -1;
     return tested(tests, sizeof tests / sizeof *tests, count > 1 ? words[1] : "");
 }

@@ -100,23 +100,30 @@ static void test_two(void)
     pashkure_remote_close(&third.connection);
 }
 
+/* Who is told of a deadlock may go on, also with the name that it asked for, when it has given back what the others wait for. */
 static void test_deadlock(void)
 {
     key first = begun(&one), second = begun(&two);
     pashkure_remote_status status;
+    int waits = 0;
+    pashkure_remote_on_deadlock(&two, count_wait, &waits);
     GIVES(OK, pashkure_remote_lock(&one, first, "a"));
     GIVES(OK, pashkure_remote_lock(&two, second, "b"));
     GIVES(WAITS, pashkure_remote_ask(&one, first, "b"));
     GIVES(DEADLOCK, pashkure_remote_lock(&two, second, "a"));
+    GIVES(DEADLOCK, pashkure_remote_lock_for(&two, second, "a", 1));
+    CHECK(waits == 4);
     GIVES(OK, pashkure_remote_status_of(&two, second, &status));
-    CHECK(status.mode == PASHKURE_REMOTE_IS_DEADLOCKED && strcmp(status.name, "a") == 0 && same(status.holder, first));
-    GIVES(MUST_ABORT, pashkure_remote_lock(&two, second, "c"));
-    GIVES(MUST_ABORT, pashkure_remote_commit(&two, second));
-    GIVES(MUST_ABORT, pashkure_remote_cancel(&two, second));
+    CHECK(status.mode == PASHKURE_REMOTE_IS_ACTIVE);
+    GIVES(OK, pashkure_remote_lock(&two, second, "c"));
+    GIVES(NOT_WAITING, pashkure_remote_cancel(&two, second));
     GIVES(WAITING, pashkure_remote_commit(&one, first));
-    GIVES(OK, pashkure_remote_abort(&two, second));
+    GIVES(OK, pashkure_remote_unlock(&two, second, "b"));
     GIVES(OK, pashkure_remote_wait(&one, first));
+    GIVES(WAITS, pashkure_remote_ask(&two, second, "a"));
     GIVES(OK, pashkure_remote_commit(&one, first));
+    GIVES(OK, pashkure_remote_wait(&two, second));
+    GIVES(OK, pashkure_remote_commit(&two, second));
 }
 
 /* Several transactions of one connection: what one is granted while another one asks is not lost. */
@@ -216,11 +223,9 @@ static void test_several(void)
     CHECK(place == 0);
     GIVES(OK, pashkure_remote_lock_all(&one, first, names, 3, 0, &place));
     GIVES(WAITS, pashkure_remote_ask(&two, second, "b"));
+    pashkure_remote_on_deadlock(&one, count_wait, &waits);
     GIVES(DEADLOCK, pashkure_remote_lock_all(&one, first, names, 4, PASHKURE_REMOTE_FOREVER, &place));
-    CHECK(place == 3);
-    GIVES(OK, pashkure_remote_cycle(&one, first, count_wait, &waits));
-    CHECK(waits == 2);
-    GIVES(NOT_DEADLOCKED, pashkure_remote_cycle(&two, second, count_wait, &waits));
+    CHECK(place == 3 && waits == 2);
     GIVES(OK, pashkure_remote_abort(&one, first));
     GIVES(OK, pashkure_remote_wait(&two, second));
     GIVES(OK, pashkure_remote_lock_all(&two, second, back, 2, 0, &place));
@@ -233,16 +238,16 @@ static void test_several(void)
     CHECK(same(owner, second));
 }
 
-static void find_victim(void *context, const pashkure_remote_wait_for *wait)
+static void find_refused(void *context, const pashkure_remote_wait_for *wait)
 {
-    key *victim = context;
-    if (victim->opening == 0)
-        *victim = wait->waiter;
+    key *refused = context;
+    if (refused->opening == 0)
+        *refused = wait->waiter;
 }
 
 static void count_live(void *context, const pashkure_remote_live *live)
 {
-    *(int *)context += live->connection > 0 && live->status.mode != PASHKURE_REMOTE_IS_ACTIVE;
+    *(int *)context += live->connection > 0 && live->status.mode == PASHKURE_REMOTE_IS_WAITING;
 }
 
 /* The operator is told of a deadlock, and ends it for a client that does not. */
@@ -250,25 +255,25 @@ static void test_operator(void)
 {
     pashkure_remote_connection operator;
     pashkure_remote_counts counts;
-    key first = begun(&one), second = begun(&two), victim = {0, 0, 0};
+    key first = begun(&one), second = begun(&two), refused = {0, 0, 0};
     int live = 0;
     open_operator(&operator);
-    pashkure_remote_on_deadlock(&operator, find_victim, &victim);
+    pashkure_remote_on_deadlock(&operator, find_refused, &refused);
     GIVES(TIMED_OUT, pashkure_remote_listen(&operator, 1));
     GIVES(OK, pashkure_remote_lock(&one, first, "a"));
     GIVES(OK, pashkure_remote_lock(&two, second, "b"));
     GIVES(WAITS, pashkure_remote_ask(&one, first, "b"));
     GIVES(DEADLOCK, pashkure_remote_lock(&two, second, "a"));
     GIVES(OK, pashkure_remote_listen(&operator, PASHKURE_REMOTE_FOREVER));
-    CHECK(same(victim, second));
+    CHECK(same(refused, second));
     GIVES(OK, pashkure_remote_list(&operator, count_live, &live));
-    CHECK(live == 2);
-    GIVES(OK, pashkure_remote_abort(&operator, victim));
+    CHECK(live == 1);
+    GIVES(OK, pashkure_remote_abort(&operator, refused));
     GIVES(OK, pashkure_remote_wait(&one, first));
     GIVES(NO_TRANSACTION, pashkure_remote_abort(&two, second));
     GIVES(OK, pashkure_remote_counts_of(&operator, & counts));
     CHECK(counts.begun == 2 && counts.aborted == 1 && counts.deadlocks == 1 && counts.waits == 1 && counts.labels_left > counts.events);
-    GIVES(OPERATOR, pashkure_remote_begin(&operator, & victim));
+    GIVES(OPERATOR, pashkure_remote_begin(&operator, & refused));
     GIVES(OPERATOR, pashkure_remote_list(&one, count_live, &live));
     GIVES(OPERATOR, pashkure_remote_graph(&one, count_wait, &live));
     GIVES(OPERATOR, pashkure_remote_counts_of(&one, &counts));

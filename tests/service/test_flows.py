@@ -12,14 +12,14 @@ import re
 import subprocess
 import types
 import unittest.mock
-from typing import Any, Callable, Optional
+from typing import Any, Callable
 
 from lib.clients import NO_KEYS, NO_NAMES, NO_TEXTS, raises, same
 from lib.hub import Hub
 from lib.world import PACKAGE, Case, each, environment, read, run, wants
 
 import pashkure
-from pashkure import Aborted, Deadlock, Full, Interrupted, LockError, LocksLost, MustAbort, NotOwner, ProtocolError, Retry, Timeout, aio, flows, wire
+from pashkure import Aborted, Deadlock, Full, Interrupted, LockError, LocksLost, NotOwner, ProtocolError, Retry, Timeout, aio, flows, wire
 from pashkure.backend import Watch
 from pashkure.locks import Transaction
 from pashkure.service import Service
@@ -27,30 +27,33 @@ from pashkure.values import encoded, key_bytes
 from pashkure.wire import Ask, Call, Conversation, Party
 
 DIALOGUE = [
-    ("begin", "begun 0.1"), ("begin", "begun 0.1 waits 1 2.7"), ("begin", "begun 0.1 deadlock 0 2.7"), ("begin", "begun 0.1 refused 3 names-full"),
+    ("begin", "begun 0.1"), ("begin", "begun 0.1 waits 1 2.7"), ("begin", "begun 0.1 deadlock 0 2.7 a"), ("begin", "begun 0.1 refused 3 names-full"),
     ("begin", "refused transactions-full"), ("begin", "refused counts-full"), ("begin", "refused operator"),
-    ("lock", "granted"), ("lock", "held"), ("lock", "waits 2.7"), ("lock", "waits 5 4294967295.65535"), ("lock", "deadlock 2.7"), ("lock", "deadlock 1 2.7"),
-    ("lock", "refused no-transaction"), ("lock", "refused must-abort"), ("lock", "refused waiting"), ("lock", "refused 2 name-too-long"), ("lock", "refused labels-full"),
+    ("lock", "granted"), ("lock", "held"), ("lock", "waits 2.7"), ("lock", "waits 5 4294967295.65535"), ("lock", "deadlock 2.7 a"),
+    ("lock", "deadlock 1 2.7 a 3.1 b .."), ("lock", "deadlock 2.7 .. 3.1 .. .."),
+    ("lock", "refused no-transaction"), ("lock", "refused waiting"), ("lock", "refused 2 name-too-long"), ("lock", "refused labels-full"),
     ("try", "granted"), ("try", "held"), ("try", "busy 2.7"), ("unlock", "unlocked"), ("unlock", "refused not-owner"), ("commit", "committed"),
-    ("abort", "aborted"), ("abort", "later"), ("cancel", "cancelled"), ("cancel", "carried"), ("cancel", "refused not-waiting"),
-    ("owner", "owner 2.7"), ("owner", "free"), ("status", "active"), ("status", "waiting a\\xff 2.7"), ("status", "waiting a 2.7 aborting"),
-    ("status", "deadlock a 2.7"), ("holds", "holds"), ("holds", "holds a b"), ("holds", "refused too-many"), ("cycle", "cycle 0.1 a 2.7 b"),
-    ("cycle", "cycle 0.1 a 2.7 b .."), ("cycle", "refused not-deadlocked"), ("fence", "fence 7 8"), ("fence", "refused no-epoch"), ("totals", "totals 1 2 3 4"),
+    ("abort", "aborted"), ("cancel", "cancelled"), ("cancel", "refused not-waiting"),
+    ("owner", "owner 2.7"), ("owner", "free"), ("status", "active"), ("status", "waiting a\\xff 2.7"),
+    ("holds", "holds"), ("holds", "holds a b"), ("holds", "refused too-many"),
+    ("fence", "fence 7 8"), ("fence", "refused no-epoch"), ("totals", "totals 1 2 3 4"),
     ("hello", "hello 1 2 3 4 5"), ("hello", "refused connections-full"), ("counts", "counts 1 2 3 4 5 6 7 8 9 10 later"), ("graph", "graph 0"),
-    ("graph", "graph 2\n* 0.1 a 2.7\n* 2.7 b 0.1"), ("list", "list 3\n* 0.1 1 active 7\n* 1.1 - waiting a 0.1 aborting later\n* 2.1 2 deadlock b 1.1"),
+    ("graph", "graph 2\n* 0.1 a 2.7\n* 2.7 b 0.1"), ("list", "list 3\n* 0.1 1 active 7\n* 1.1 3 waiting a 0.1 later\n* 2.1 2 waiting b 1.1"),
     ("clients", "clients 1\n* 1 2 3 4 later"),
 ]  # fmt: skip
 """Each request with each of its replies, by docs/SERVICE.md."""
 EVENTS = ["* granted 9.9 a", "* aborted 9.9"]
 NO_REPLIES = [
     ("begin", ["begun", "begun 0", "begun 0.1 ", "begun 0.1 waits 2.7", "begun 0.1 waits x 2.7", "begun 0.1 granted", "begin 0.1", "committed", "", " begun 0.1"]),
-    ("lock", ["grante", "granted ", "granted 0.1", "waits", "waits 2", "waits 1 2", "waits 1 2 3.4", "busy 2.7", "refused", "refused ", "refused 1", "malformed"]),
-    ("try", ["waits 2.7", "busy"]), ("commit", ["aborted", "later"]), ("cancel", ["aborted"]), ("owner", ["owner", "owner a", "free 1"]),
-    ("status", ["waiting", "waiting a", "waiting a b", "waiting a 2.7 later", "idle"]), ("holds", ["hold a", "holds a  b", "holds "]),
-    ("cycle", ["cycle", "cycle 0.1", "cycle 0.1 a .. .."]), ("fence", ["fence 1", "fence a b"]), ("totals", ["totals 1 2 3", "totals 1 2 3 x"]),
+    ("lock", ["grante", "granted ", "granted 0.1", "waits", "waits 2", "waits 1 2", "waits 1 2 3.4", "busy 2.7", "refused", "refused ", "refused 1", "malformed", "deadlock 2.7",
+              "deadlock 1 2.7", "deadlock 2.7 a 3.1", "deadlock 2.7 ..  ", "deadlock 2.7 a .. ..", "deadlock a 2.7", "deadlock"]),
+    ("try", ["waits 2.7", "busy"]), ("commit", ["aborted", "later"]), ("abort", ["later", "committed"]), ("cancel", ["aborted", "carried"]),
+    ("owner", ["owner", "owner a", "free 1"]),
+    ("status", ["waiting", "waiting a", "waiting a b", "waiting a 2.7 later", "deadlock a 2.7", "idle"]), ("holds", ["hold a", "holds a  b", "holds "]),
+    ("fence", ["fence 1", "fence a b"]), ("totals", ["totals 1 2 3", "totals 1 2 3 x"]),
     ("hello", ["hello", "hello 1 2 3 4"]), ("graph", ["graph", "graph x", "graph -1", "graph 1 2", "graph 1\n* 0.1 a", "graph 1\n* 0.1 a b c", "graph 2\n* 0.1 a 1.1\ngranted",
                                                      "graph 1\ngranted"]),
-    ("list", ["list 1\n* 0.1 x active", "list 1\n* 0.1 1 asleep"]), ("counts", ["counts 1 2 3 4"]),
+    ("list", ["list 1\n* 0.1 x active", "list 1\n* 0.1 - active", "list 1\n* 0.1 1 asleep"]), ("counts", ["counts 1 2 3 4"]),
 ]  # fmt: skip
 NO_EVENTS = ["* granted 9.9", "* granted 8.8 a", "* aborted", "* aborted 8.8", "* deadlock 0.1 a", "* woken 9.9", "*", "granted", "* granted 9.9 a b"]
 TIMES = [float("nan"), "2", -1, -0.001, True, None.__class__, [1], float("-inf")]
@@ -80,7 +83,7 @@ class Wire(Case):
             talk.feed(text[:cut])
             talk.feed(text[cut:])
             same([call.answer for call in calls], wanted, f"cut at {cut}")
-            same(party.told, [(b"granted", b"9.9", b"a")] * 11 + [(b"aborted", b"9.9")])
+            same(party.told, [(b"granted", b"9.9", b"a")] * len(range(0, len(DIALOGUE), 5)) + [(b"aborted", b"9.9")])
         talk, calls, _ = self.talk(*(word for word, _ in DIALOGUE))
         for byte in text:
             talk.feed(bytes([byte]))
@@ -160,10 +163,14 @@ class World:
                 if to != b"0":
                     self.send(int(to), self.talks[int(to)].feed(reply + b"\n"))
 
-    def ask(self, number: int, line: str) -> None:
-        """A request of a client that is not tried."""
+    def says(self, number: int, line: str) -> None:
+        """A request of a client that is not tried, which is on its way."""
         self.send(number, line.encode() + b"\n")
         self.talks[number].pending.append(Call(Ask(line.split()[0].encode()), Party()))
+
+    def ask(self, number: int, line: str) -> None:
+        """The same, and it is answered."""
+        self.says(number, line)
         self.pump()
 
 
@@ -177,7 +184,6 @@ class Place(Party):
     def __init__(self, world: World, number: int) -> None:
         super().__init__()
         self.world, self.number, self.talk = world, number, world.talks[number]
-        self.last: Optional[Call] = None
 
     def begins(self, flow: Any, moment: int, is_delivered: bool) -> Any:
         """Runs the flow, and leaves it at this moment, before or after the answer came. Whether it had come so far."""
@@ -192,12 +198,12 @@ class Place(Party):
             for count in itertools.count():
                 step = flow.send(answer)
                 if isinstance(step, Ask):
-                    self.last = Call(step, self)
-                    self.world.send(self.number, self.talk.send(self.last))
+                    call = Call(step, self)
+                    self.world.send(self.number, self.talk.send(call))
                     if count == moment and not is_delivered:
                         return LEFT
                     self.world.pump()
-                    answer = self.last.answer
+                    answer = call.answer
                 else:
                     answer = self.told.pop(0) if self.told else None
                 if count == moment:
@@ -229,13 +235,13 @@ class Left(Case):
                 same(sorted(world.hub.service.keys), [b"0.1", b"1.1"], f"{moment} {is_delivered}")
                 self.assertTrue(place.talk.is_idle())
 
-    @each([("free", ["four"]), ("some", ["five", "two", "six"]), ("time is up", ["two"]), ("deadlock", ["three"])])
+    @each([("free", ["four"]), ("some", ["five", "two", "six"]), ("time is up", ["two"]), ("looks", ["two"]), ("deadlock", ["three"])])
     def test_lock(self, name: str, names: list[str]) -> None:
         """A lock that is left waits no longer, and the transaction goes on."""
         deadline = -math.inf if name == "time is up" else math.inf
         for moment, is_delivered in itertools.product(range(6), (False, True)):
             world, place = self.world()
-            state = flows.State(session=STEPS)
+            state = flows.State(session=STEPS, reply_timeout=0.0 if name == "looks" else math.inf)
             place.runs(flows.begin(state, [b"one"], math.inf))
             if name == "deadlock":
                 world.ask(3, "lock 1.1 one")
@@ -243,42 +249,29 @@ class Left(Case):
             if not place.begins(flow, moment, is_delivered):
                 continue
             flow.close()
-            world.send(1, place.talk.abandon(place.last))
-            state.is_unsettled = True
+            world.send(1, place.talk.abandon(place))
             world.pump()
-            place.told.clear()
             service = world.hub.service
             process = service.keys[state.key]
-            self.assertTrue(process not in service.table.wait or process in service.table.verdicts, f"it waits: {moment} {is_delivered}")
-            if process in service.table.verdicts:
-                error = raises(Deadlock, place.runs, flows.lock(state, [b"last"], math.inf))
-                same((error.name, error.holder, len(error.cycle)), ("three", "1.1", 2))
-                raises(MustAbort, place.runs, flows.lock(state, [b"last"], math.inf))
-            else:
-                held = place.runs(flows.asked(state, Ask(b"holds"), lambda words: words[1:]))
-                same(held, tuple(sorted(service.names[process])))
-            same(place.runs(flows.abort(state)), True)
+            self.assertNotIn(process, service.table.wait, f"it waits: {moment} {is_delivered}")
+            held = place.runs(flows.asked(state, Ask(b"holds"), lambda words: words[1:]))
+            same(held, tuple(sorted(service.names[process])))
+            place.runs(flows.abort(state))
             self.assertTrue(place.talk.is_idle())
             self.assertNotIn(state.key, service.keys)
 
-    def test_carried(self) -> None:
-        """A lock that cannot be taken back is taken back before the next request."""
+    def test_grant_of_before(self) -> None:
+        """A wait that was left and granted before it was taken back is not the next one."""
         world, place = self.world()
         state = flows.State(session=STEPS)
         place.runs(flows.begin(state, [], math.inf))
-        flow = flows.lock(state, [b"three"], math.inf)
+        flow = flows.lock(state, [b"two"], math.inf)
         self.assertTrue(place.begins(flow, 0, True))
-        world.ask(3, "lock 1.1 two")
-        world.ask(2, "lock 0.1 three")  # a deadlock: whoever waits behind it is carried
-        world.send(1, place.talk.abandon(place.last))
-        state.is_unsettled = True
-        world.pump()
-        next_call = flows.asked(state, Ask(b"try", (b"four",)), lambda words: words)
-        self.assertTrue(place.begins(next_call, 1, True))  # cancel is carried, and it pauses
-        self.assertIn(world.hub.service.keys[state.key], world.hub.service.table.wait)
-        world.ask(2, "abort 0.1")
-        same(place.runs(flows.asked(state, Ask(b"try", (b"four",)), lambda words: words)), (b"granted",))
-        self.assertFalse(state.is_unsettled)
+        flow.close()
+        world.says(2, "unlock 0.1 two")
+        world.send(1, place.talk.abandon(place))
+        raises(Timeout, place.runs, flows.lock(state, [b"three"], -math.inf))
+        same(world.hub.service.names[world.hub.service.keys[state.key]], [b"two"])
 
 
 class Clock(Case):
@@ -316,32 +309,21 @@ class Clock(Case):
         same(self.told(2.0, waiting, 4.5, waiting, (b"granted", b"9.9", b"a"), deadline=deadline, looks=2.0), None)
         same((self.untils, [ask.word for ask in self.asked]), ([2.0, 4.0, 6.5], [b"lock", b"status", b"status"]))
         same({ask.deadline for ask in self.asked}, {deadline + 1.0})
-        self.told(12.0, (b"carried",), deadline=deadline, interrupts=3)
+        self.told(12.0, (b"cancelled",), deadline=deadline, interrupts=2)
         same(self.asked[-1].deadline, max(deadline, 12.0) + 1.0)
-
-    def test_carried(self) -> None:
-        """It tries again after pauses of 1 to 100 ms, each twice as long."""
-        steps, time = [], 10.0
-        for number in range(10):
-            steps += [time, (b"carried",)]
-            time += min(0.1, 0.001 * 2**number)
-        error = self.told(*steps, time, (b"cancelled",))
-        same(type(error), Timeout)
-        pauses = [until - (10.0 if not number else self.untils[number]) for number, until in enumerate(self.untils[1:])]
-        same([round(pause, 6) for pause in pauses], [min(0.1, 0.001 * 2**number) for number in range(10)])
 
     @each([("granted", (b"granted", b"9.9", b"a"), None), ("aborted", (b"aborted", b"9.9"), Aborted)])
     def test_ended_between(self, name: str, told: Any, wanted: Any) -> None:
         """What ends the wait while it is taken back counts."""
-        for steps in (told,), (10.0, (b"refused", b"not-waiting"), told), (10.0, (b"carried",), told), (10.0, (b"carried",), 11.0, (b"refused", b"not-waiting"), told):
+        for steps in (told,), (10.0, (b"refused", b"not-waiting"), told):
             error = self.told(*steps)
             same(error if wanted is None else type(error), wanted)
+        same(type(self.told(10.0, (b"refused", b"not-waiting"), 11.0)), ProtocolError)
 
     def test_interrupted(self) -> None:
         """An interrupt takes the wait back, once; if it was granted in between, the next wait is interrupted."""
         same(type(self.told((b"cancelled",), interrupts=1)), Interrupted)
         same(type(self.told(0.0, (b"cancelled",), interrupts=2)), Interrupted)
-        same(type(self.told(0.0, (b"carried",), 0.001, (b"cancelled",), interrupts=2)), Interrupted)
         same(self.told(0.0, (b"refused", b"not-waiting"), (b"granted", b"9.9", b"a"), interrupts=2), None)
 
     def test_slow_wait(self) -> None:
@@ -477,11 +459,11 @@ class Retries(Case):
     def test_what_is_tried_again(self, form: Any) -> None:
         """Deadlocks, also in groups, and nothing else."""
         deadlock = Deadlock("a", "0.1")
-        for error in deadlock, Group(deadlock), Group(Group(deadlock), MustAbort("so")):
+        for error in deadlock, Group(deadlock), Group(Group(deadlock), Aborted("so")):
             fake = FakeLocks(form, Retry(3))
             raises(type(error), fake.run, lambda tx: fails(error))
             same(fake.begun, 3)
-        for error in LocksLost("lost"), KeyError(1), Full("names"), Group(KeyError(1)), Group(deadlock, KeyError(1)), MustAbort("so"), KeyboardInterrupt():
+        for error in LocksLost("lost"), KeyError(1), Full("names"), Group(KeyError(1)), Group(deadlock, KeyError(1)), Aborted("so"), KeyboardInterrupt():
             fake = FakeLocks(form, Retry(3))
             self.assertRaises(type(error), fake.run, lambda tx: fails(error))
             same(fake.begun, 1)
@@ -558,4 +540,4 @@ class Versions(Case):
         if run("sh", "-c", f"{python} -c 'import sys; sys.exit(sys.version_info < (3, 9))'").status:
             self.skipTest(f"no {python} is on the PATH")
         told = subprocess.run([python, "-X", "dev", "-W", "error", "-c", USE], env=environment(), capture_output=True, text=True)
-        same((told.stdout, told.stderr), ("True True Status(state='active', name=None, holder=None, aborting=False)\n", ""))
+        same((told.stdout, told.stderr), ("True True Status(state='active', name=None, holder=None)\n", ""))

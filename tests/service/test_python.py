@@ -11,7 +11,7 @@ from typing import Any, List
 from lib.clients import Apart, Asyncio, Opener, raises, same, waiting
 from lib.world import PROGRAM, Case, until
 
-from pashkure import (Aborted, Closed, Counts, Deadlock, Event, Full, Interrupted, Locks, Misuse, MustAbort, NameTooLong, NotOwner, NoTransaction,
+from pashkure import (Aborted, Closed, Counts, Deadlock, Event, Full, Interrupted, Locks, Misuse, NameTooLong, NotOwner, NoTransaction,
                       Operator, Retry, Status, Timeout, Totals, Wait, Waiting, testing)  # fmt: skip
 
 OPTIONS = {"test_names": {"name_bytes": 20}, "test_full": {"transactions": 4, "names": 4}}
@@ -95,7 +95,8 @@ class Calls(Opener):
         same(locks.totals(), Totals(4, 2, 2, 1))
 
     def test_deadlock(self) -> None:
-        """A deadlock is told to the one who closes the cycle, and the others go on after its abort. Who waits refuses all other calls"""
+        """A deadlock is told to the one who would close the cycle, as often as it asks. The others go on after its abort, and time-outs meanwhile.
+        Who waits refuses all other calls"""
         locks = self.locks
         one, two = locks.transaction("1"), locks.transaction("2")
         thread = waiting(one, "2")
@@ -103,20 +104,54 @@ class Calls(Opener):
         same(one.status(), Status("waiting", "2", two.key))
         error = raises(Deadlock, two.lock, "1")
         same((error.name, error.holder, error.cycle), ("1", one.key, (Wait(two.key, "1", one.key), Wait(one.key, "2", two.key))))
-        same(two.status(), Status("deadlock", "1", one.key))
-        for call in (two.lock, "3"), (two.try_lock, "3"), (two.unlock, "2"), (two.commit,):
-            raises(MustAbort, *call)
-        same(two.holds(), ["2"])
+        same(raises(Deadlock, two.lock, "1").cycle, error.cycle)
+        same(raises(Deadlock, two.lock, "3", "1", "4").cycle, error.cycle)
+        same((two.status(), two.holds(), two.try_lock("1")), (Status("active"), ["2", "3"], False))
+        same(raises(Timeout, locks.transaction, "1", timeout=0.001).name, "1")
         for call in (one.commit,), (one.try_lock, "3"), (one.lock, "3"), (one.holds,):
             raises(Waiting, *call)
         two.abort()
         same(thread.ends(), None)
         same(one.holds(), ["1", "2"])
         one.commit()
-        same(locks.totals(), Totals(2, 1, 1, 1))
+        same(locks.totals(), Totals(3, 1, 2, 3))
+
+    def test_savepoint(self) -> None:
+        """One that is told of a deadlock goes back to a savepoint, as far as the others wait for, and goes on: both commit."""
+        locks = self.locks
+        one, two = locks.transaction("1"), locks.transaction("2")
+        savepoint = two.holds()
+        two.lock("3", "4")
+        thread = waiting(one, "3")
+        error = raises(Deadlock, two.lock, "1")
+        same((error.cycle[-1].key, error.cycle[-1].name), (one.key, "3"))
+        for name in two.holds():
+            if name not in savepoint:
+                two.unlock(name)
+        same(thread.ends(), None)
+        thread = waiting(two, "1", "3")
+        one.commit()
+        same(thread.ends(), None)
+        same(two.holds(), ["1", "2", "3"])
+        two.commit()
+        same(locks.totals(), Totals(2, 2, 0, 1))
+
+    def test_long_cycle(self) -> None:
+        """Of a long cycle the wait that was refused and sixteen others are told."""
+        ring = [self.locks.transaction(f"{number}") for number in range(18)]
+        threads = [waiting(tx, f"{number + 1}") for number, tx in enumerate(ring[:-1])]
+        for first, rest in (1, ring[17].key), (0, ".."):
+            cycle = raises(Deadlock, ring[17].lock, f"{first}").cycle
+            keys = [tx.key for tx in (ring[17], *ring[first : first + 16])]
+            same(cycle, tuple(map(Wait, keys, map(str, range(first, first + 17)), [*keys[1:], rest])))
+        ring[17].unlock("17")
+        for number in range(16, -1, -1):
+            same(threads[number].ends(), None)
+            ring[number].commit()
+        ring[17].commit()
 
     def test_blocks(self) -> None:
-        """A `with` block commits at its end, and aborts at an exception and after a deadlock that it swallows"""
+        """A `with` block commits at its end, also after a deadlock that it swallows, and aborts at an exception"""
         locks = self.locks
         with locks.transaction() as tx:
             tx.lock("a")
@@ -142,10 +177,10 @@ class Calls(Opener):
 
         thread: List[Apart] = []
         one = locks.transaction("a")
-        raises(MustAbort, swallows)
+        swallows()
         same(thread[0].ends(), None)
         one.commit()
-        same(locks.totals(), Totals(5, 3, 2, 1))
+        same(locks.totals(), Totals(5, 4, 1, 1))
 
     def test_timeouts(self) -> None:
         """A lock with a timeout gives up after it, not before, and the transaction goes on"""
@@ -208,22 +243,27 @@ class Calls(Opener):
         raises(Deadlock, two.lock, "1")
         same(next(deadlocks), (Wait(two.key, "1", one.key), Wait(one.key, "2", two.key)))
         live = operator.transactions()
-        same([(each.key, each.status.state) for each in live], [(one.key, "waiting"), (two.key, "deadlock")])
+        same([(each.key, each.status.state) for each in live], [(one.key, "waiting"), (two.key, "active")])
         self.assertIn(live[0].client, [client.number for client in operator.clients()])  # type: ignore[attr-defined]
         same({client.pid for client in operator.clients()}, {os.getpid()})
-        same(operator.status(two.key), Status("deadlock", "1", one.key))
-        same(operator.abort(two.key), True)
+        same(operator.status(one.key), Status("waiting", "2", two.key))
+        operator.abort(two.key)
         same(thread.ends(), None)
-        raises(Aborted, two.lock, "3")
+        raises(Aborted, two.holds)
         raises(NoTransaction, two.lock, "3")
+        four = Apart(locks.transaction, "1")  # what the one before it on this connection was told is not its own
+        until(operator.graph, "it waits")
         three = locks.transaction()
         thread = waiting(three, "1")
         operator.abort(three.key)
         same(type(thread.ends()), Aborted)
         raises(NoTransaction, operator.status, "4294967295.4294967295")
         one.commit()
+        last = four.ends()
+        same(last.holds(), ["1"])
+        last.commit()
         counts = operator.counts()
-        same((type(counts), counts.deadlocks, counts.waits), (Counts, 1, 2))
+        same((type(counts), counts.deadlocks, counts.waits), (Counts, 1, 3))
         deadlocks.close()
         for call in locks.locks, locks.graph, locks.counts:
             self.assertIn("pashkure.Operator", str(raises(Misuse, call)))  # type: ignore[attr-defined]

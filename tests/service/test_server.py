@@ -1,13 +1,18 @@
-"""A server with the program: clients that use the keys of others, hang up, and come in thousands, and an operator that does not read. (Lines,
-halves of lines, and bounds are in test_front; what the program says to connections that hang up, in program.test_random.)"""
+"""A server with the program: clients that use the keys of others, hang up, also with many transactions, and come in thousands. (Lines, halves of
+lines, and bounds are in test_front; what the program says to connections that hang up, in program.test_random.)"""
 import multiprocessing
 import os
 import random
+import re
 from multiprocessing.connection import Connection
 
-from lib.world import IS_SLOW, LIMIT, SEED, Case, Server, Wire, same, until
+from lib.hub import PART
+from lib.search import SUBJECTS
+from lib.world import IS_SLOW, LIMIT, PROGRAM, SEED, Case, Server, Wire, read, run, same, until
 
 CROWDS, SIZE, KILLS = (20, 500, 200) if IS_SLOW else (8, 50, 16)
+MANY = 1000
+"""Transactions of one that hangs up."""
 
 
 def crowd(path: str, place: int, told: Connection) -> None:
@@ -87,17 +92,17 @@ class Clients(ServerCase):
         self.asks(one, (b"holds 0.1", b"holds a"))
 
     def test_all_are_aborted(self) -> None:
-        """Who hangs up has all its transactions aborted: active ones, waiting ones, and one in a deadlock."""
+        """Who hangs up has all its transactions aborted: active ones, and those that wait for each other, for others, or for both."""
         server = self.server()
         wire, other = self.wire(server), self.wire(server)
         mine = begun(other, b"x")
         keys = [begun(wire, b"%d" % number) for number in range(4)]
         self.asks(wire, (b"lock %b 1" % keys[0], b"waits " + keys[1]), (b"lock %b 2" % keys[1], b"waits " + keys[2]),
                   (b"lock %b x" % keys[2], b"waits " + mine), (b"lock %b 0" % keys[3], b"waits " + keys[0]))  # fmt: skip
+        self.asks(other, (b"lock %b 3" % mine, b"deadlock %b 0 %b 1 %b 2 %b x" % (keys[3], *keys[:3])))
         wire.close()
-        self.asks(other, (b"commit " + mine, b"committed"))  # now each abort that came later can come due
         until(lambda: self.counts(other)[2] == 4, "all are aborted")
-        begun(other, b"0", b"1", b"2", b"3")
+        self.asks(other, (b"lock %b 0 1 2 3" % mine, b"granted"), (b"commit " + mine, b"committed"))
 
     def test_crowds(self) -> None:
         """Hundreds of connections of processes that are killed, with --slow ten thousand: what a dead one owned can be had, and nothing of it is left."""
@@ -115,3 +120,45 @@ class Clients(ServerCase):
         for each in crowds:
             each.kill()
         until(lambda: server.descriptors() <= files and self.counts(wire)[0] == self.counts(wire)[2], "all have hung up, and all is aborted")
+
+
+class HangUps(ServerCase):
+    """One with many transactions hangs up, of which half wait: for each other, and for one of another client."""
+
+    def waits(self, keys: list[bytes]) -> list[bytes]:
+        return [b"lock %b %b" % (key, b"held" if number % 4 else b"%d" % (number + 1)) for number, key in enumerate(keys) if number % 2 == 0]
+
+    def test_parts(self) -> None:
+        """Each line ends a part of them. All waits are taken back before, so that none of them is granted anything. While some are left the answer says
+        so, and when none is, that all are."""
+        keys = [b"%d.1" % number for number in range(1, MANY + 1)]
+        given = [b"2 begin held", *(b"1 begin %d" % number for number in range(MANY)), *(b"1 " + line for line in self.waits(keys)),
+                 b"2 begin", b"2 lock %d.1 0" % (MANY + 1), *[b"- 1", b"0 totals"] * 20]  # fmt: skip
+        data = b"".join(line + b"\n" for line in given)
+        self.assertIsNone(next(subject for subject in SUBJECTS if subject.name == "connections").difference(data))
+        told = run(PROGRAM, "locks", "--connections", "3", given=data)
+        lines = self.passes(told).out.split(b"\n")[len(given) - 40 : -1]
+        self.assertEqual([line for line in lines if line.startswith((b"1 ", b"2 "))], [b"2 * granted %d.1 0" % (MANY + 1)])
+        answers = [line for line in lines if line.endswith(b" 1") and not line.startswith(b"2 ")]
+        aborted = [int(line.split(b" ")[4]) for line in lines if line.startswith(b"0 totals ")]
+        parts = [after - before for before, after in zip([0, *aborted], aborted)]
+        self.assertEqual((len(answers), sum(parts)), (20, MANY))
+        self.assertLessEqual(max(parts), PART)
+        last = aborted.index(MANY)
+        self.assertEqual(answers, [b"* more 1"] * last + [b"- 1"] * (20 - last))
+
+    def test_beside_a_quiet_client(self) -> None:
+        """The server sends the line again until all have ended, and another client keeps what it has."""
+        written = self.path("written")
+        server = self.server(program=self.script(f'"{PROGRAM}" "$@" | tee "{written}"'))
+        wire, quiet = self.wire(server), self.wire(server)
+        mine, keys = begun(quiet, b"held"), [begun(wire, b"%d" % number) for number in range(MANY)]
+        lines = self.waits(keys)
+        wire.send(b"".join(line + b"\n" for line in lines))
+        self.assertEqual({line[:6] for line in wire.lines(len(lines))}, {b"waits "})
+        wire.close()
+        until(lambda: self.counts(quiet)[2] == MANY, "all are aborted")
+        parts = re.findall(r"^\* more (\d+)\n", read(written), re.M)
+        self.assertEqual((len({*parts}), len(parts) >= MANY // PART), (1, True))
+        until(lambda: f"\n- {parts[0]}\n" in read(written).rpartition("* more ")[2], "the hang-up is answered")
+        self.asks(quiet, (b"holds " + mine, b"holds held"), (b"lock %b 0 1 2" % mine, b"granted"), (b"commit " + mine, b"committed"))

@@ -11,12 +11,13 @@ import socket
 import subprocess
 import sys
 import threading
+import time
 import warnings
 from typing import Any, Callable, List
 
 from lib.clients import Apart, Asyncio, Opener, raises, same, waiting, waits
 from lib.faults import FaultCase, variables
-from lib.world import LIMIT, PACKAGE, SEED, TOP, Case, Server, each, environment, read, run, stop, until
+from lib.world import LIMIT, PACKAGE, SEED, TOP, Case, Server, each, environment, read, run, slow, stop, until
 
 import pashkure
 from pashkure import (Aborted, CannotConnect, Closed, Deadlock, Interrupted, Locks, LocksLost, NoTransaction, ProtocolError, ServiceRestarted, Timeout,
@@ -190,6 +191,50 @@ class Crowd(TroubleCase):
         over.set()
         same(killer.ends(), None)
         self.none_is_left(locks)
+
+    def goes_back(self, locks: Any, threads: int, goes_on: Callable[[int], bool]) -> None:
+        """Threads lock names in any order. After a deadlock each goes back to a savepoint, as far as the others wait for, and goes on: all commit."""
+        counters = dict.fromkeys("abcdefghijkl", 0)
+
+        def works(number: int) -> int:
+            done, chance = 0, random.Random(number)
+            while goes_on(done):
+                with locks.transaction() as tx:
+                    owned: List[str] = []
+                    wanted = chance.sample(list(counters), 4)
+                    while wanted:
+                        try:
+                            tx.lock(wanted[-1])
+                            owned.append(wanted.pop())
+                        except Deadlock as error:
+                            same(error.cycle[-1].holder, tx.key)
+                            for name in owned[owned.index(error.cycle[-1].name) :]:
+                                tx.unlock(name)
+                                owned.remove(name)
+                                wanted.append(name)
+                            chance.shuffle(wanted)
+                            time.sleep(chance.uniform(0, 0.002))
+                    before = {name: counters[name] for name in owned}
+                    time.sleep(0)
+                    counters.update({name: count + 1 for name, count in before.items()})
+                done += 1
+            return done
+
+        done = [thread.ends() for thread in [Apart(works, number) for number in range(threads)]]
+        self.assertTrue(all(type(count) is int and count > 0 for count in done), done)
+        totals = locks.totals()
+        same((totals.begun, totals.committed, totals.aborted), (sum(done), sum(done), 0))
+        same((sum(counters.values()), totals.deadlocks > 0), (4 * sum(done), True))
+
+    @each(FORMS)
+    def test_savepoints(self, name: str, form: Any) -> None:
+        self.goes_back(self.opened(form, self.server().path), 8, lambda done: done < 40)
+
+    @slow
+    def test_savepoints_for_a_minute(self) -> None:
+        """The same by a hundred threads."""
+        end = time.monotonic() + 60
+        self.goes_back(self.opened(Locks.connect, self.server().path), 100, lambda done: time.monotonic() < end)
 
 
 class Restarts(TroubleCase):

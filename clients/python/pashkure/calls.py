@@ -8,7 +8,7 @@ from typing import Any, Awaitable, Callable, Coroutine, List, Optional, Sequence
 
 from . import flows
 from .backend import BY_DROP, LOST, RESTARTED, made, now
-from .errors import Aborted, CannotConnect, Closed, Deadlock, LockError, LocksLost, MustAbort, NoTransaction, Waiting, again
+from .errors import Aborted, CannotConnect, Closed, Deadlock, LockError, LocksLost, NoTransaction, Waiting, again
 from .in_process import Manages
 from .values import Fence, Name, Retry, Status, Totals, decoded, encoded, seconds
 from .wire import Answer, Ask
@@ -46,8 +46,7 @@ class Calls:
         Raises `Deadlock` at once if a request would close a cycle of waits. A request that waits is never told of a deadlock later.
 
         With a timeout, in seconds, the request is taken back after that time, and `Timeout` is raised. At every exception the transaction
-        keeps what it owns. If a transaction for which it waits, directly or over others, was told of a deadlock and has yet to be aborted,
-        the request cannot be taken back. Then this is tried again after short pauses, until that one is aborted or the name is granted.
+        waits for nothing, keeps what it owns, and may go on.
         """
         deadline, data = monotonic() + seconds(timeout), tuple(map(encoded, names))
         return self._call("lock", data, flows.lock, data, deadline)
@@ -169,11 +168,10 @@ class Calls:
 
     async def _after(self, kind: str, error: BaseException) -> BaseException:
         """Cleans up after a call that this ended: one of its own exceptions or one of a signal, or its task was cancelled. What to raise."""
-        session = self._state.session
-        is_last = kind in ("begin", "commit") or not self._state.key
-        if not isinstance(error, LockError) and self._right and session.abandon():
-            self._state.is_unsettled, self._state.is_over = not is_last, is_last  # a commit was sent; refused, it is an abort
-        is_dead = isinstance(error, Closed) or not isinstance(error, LockError) and not self._state.is_unsettled
+        session, is_left = self._state.session, not isinstance(error, LockError)
+        is_dead = is_left or isinstance(error, Closed)
+        if is_left and self._right and session.abandon():
+            is_dead = self._state.is_over = kind in ("begin", "commit") or not self._state.key  # a commit was sent; refused, it is an abort
         is_lost = is_dead and self._part("end") and session.why is LOST
         if self._is_aborted and isinstance(error, LocksLost):
             return Aborted("another thread or task aborted the transaction")
@@ -193,7 +191,8 @@ class Calls:
         is_free, start = self._busy.acquire(False), monotonic()
         self._is_aborted = not is_free or self._who() != self._own
         try:
-            if is_free and self._right and await flows.abort(state):
+            if is_free and self._right:
+                await flows.abort(state)
                 self._part("give_back")
         except Closed:
             pass
@@ -241,7 +240,7 @@ class Opened(Manages):
         return self._ask(b"owner", lambda words: words[1].decode("ascii") if words[0] == b"owner" else None, name)
 
     def totals(self) -> Totals:
-        """How many transactions began, were committed and were aborted, and how many requests were told of a deadlock."""
+        """How many transactions began, were committed and were aborted, and how many requests were refused for a deadlock."""
         return self._ask(b"totals", lambda words: Totals(*map(int, words[1:])))
 
     def _ask(self, word: bytes, read: Callable[[Answer], R], *names: Name) -> R:
@@ -267,4 +266,4 @@ def is_deadlock(error: BaseException) -> bool:
     """Whether a deadlock is all that went wrong, also in a group of exceptions."""
     parts: Sequence[BaseException] = getattr(error, "exceptions", ())
     rest = [part for part in parts if not is_deadlock(part)]
-    return isinstance(error, Deadlock) or len(rest) < len(parts) and all(isinstance(part, (MustAbort, Aborted)) for part in rest)
+    return isinstance(error, Deadlock) or len(rest) < len(parts) and all(isinstance(part, Aborted) for part in rest)

@@ -18,11 +18,12 @@ class LockError(Exception):
 
 
 class Deadlock(LockError):
-    """The request would have closed a cycle of waits, so it was not made.
+    """The request would have closed a cycle of waits, so it was refused. The transaction waits for nothing, and keeps what it owns.
 
-    The transaction keeps its locks until it is aborted, so that what it did under them can be undone first. Until then its other calls
-    raise `MustAbort`. `name` is the name that it asked for, and `holder` the key of the transaction that owns it. `cycle` has the waits of
-    the cycle, this transaction's first, at most 16 of them.
+    It may go on. But each transaction of the cycle waits, directly or over others, for this one: so it gives back what they wait for, as
+    back to a savepoint, or is aborted. One that asks again before that is told of the deadlock again, and all of them wait on. `name` is
+    the name that it asked for, and `holder` the key of the transaction that owns it. `cycle` has the waits of the cycle, first the one
+    that was refused, and at most 16 others.
     """
 
     def __init__(self, name: str, holder: str, cycle: Sequence[Wait] = ()) -> None:
@@ -72,7 +73,6 @@ class ServiceRestarted(LocksLost): """The service was started anew. The locks of
 
 class Misuse(LockError): """The program that calls this package is wrong. Nothing has changed."""
 class NoTransaction(Misuse): """The transaction has ended."""
-class MustAbort(Misuse): """The transaction was told of a deadlock, and the call is none of `abort`, `status` and `holds`."""
 class Waiting(Misuse): """Another thread or task is inside a call of this transaction, such as a `lock` that waits."""
 class NotOwner(Misuse): """The transaction does not own the name."""
 class BadName(Misuse, ValueError): """It can be no name: it is empty, or has spaces or control characters."""
@@ -91,7 +91,6 @@ class NameTooLong(Misuse):
 
 
 _REFUSALS = {
-    b"must-abort": MustAbort("the transaction was told of a deadlock, and can only be aborted"),
     b"waiting": Waiting("the transaction waits for a lock"),
     b"not-owner": NotOwner("the transaction does not own the name"),
     b"operator": Misuse("only the operator may ask for this, at the operator's socket"),

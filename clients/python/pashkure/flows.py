@@ -14,7 +14,6 @@ from .wire import LONGEST, Answer, Ask, cut
 
 R = TypeVar("R")
 OWNED = (b"granted", b"held")
-SHORTEST, LONGEST_PAUSE = 0.001, 0.1
 REPLY_SLACK = 1.0
 """Seconds after the time of a call in which a reply to it is still taken."""
 
@@ -32,7 +31,6 @@ class State:
     waited: float = 0.0  # how long the last call waited
     is_over: bool = False
     is_interrupted: bool = False  # its wait, or its next one, is to be interrupted
-    is_unsettled: bool = False  # a call was left, so it may wait for what nobody wants
 
 
 async def begin(state: State, names: Sequence[bytes], deadline: float) -> None:
@@ -53,7 +51,6 @@ async def begin(state: State, names: Sequence[bytes], deadline: float) -> None:
 
 async def lock(state: State, names: Sequence[bytes], deadline: float) -> None:
     """Locks the names in their order. What is owned at an exception stays owned."""
-    await settle(state)
     while names:
         part = names[: cut(names, LONGEST - len(b"lock ") - len(state.key))]
         words: Answer = await state.session.ask(Ask(b"lock", tuple(part), _due(deadline)))
@@ -64,14 +61,16 @@ async def _owned(state: State, names: Sequence[bytes], words: Answer, deadline: 
     """How many of the names that it asked for are owned, after its wait if need be. Raises what else the answer says."""
     if not words or words[0] in OWNED:
         return len(names)
-    place = int(words[1]) if len(words) == 3 else 0
+    has_place = words[1].isdigit()
+    place = int(words[1]) if has_place else 0
     if place >= len(names):
         raise ProtocolError(f"the service told of name {place} of {len(names)}")
     if words[0] == b"waits":
         await _waited(state, decoded(names[place]), words[-1].decode("ascii"), deadline)
         return place + 1
     if words[0] == b"deadlock":
-        raise (await _deadlock(state, names[place], words[-1]))
+        cycle = cycle_of((state.key, names[place], *words[1 + has_place :]))
+        raise Deadlock(cycle[0].name, cycle[0].holder, cycle)
     raise _refused(state, words, names[place])
 
 
@@ -80,39 +79,27 @@ def _due(deadline: float) -> float:
     return max(deadline, monotonic()) + REPLY_SLACK
 
 
-async def _deadlock(state: State, name: bytes, holder: bytes) -> Deadlock:
-    """What to raise after a deadlock, once the cycle was read."""
-    words: Answer = await state.session.ask(Ask(b"cycle"))
-    return Deadlock(decoded(name), holder.decode("ascii"), cycle_of(words[1:]) if words[0] == b"cycle" else ())
-
-
 async def _waited(state: State, name: str, holder: str, deadline: float) -> None:
     """Returns when the wait was granted. At the deadline, and if it is interrupted, the request is taken back, and this raises. A service that
     hangs ends it too: it is asked again and again."""
     state.waits = Status("waiting", name, holder)
-    start, pause, is_tried = monotonic(), SHORTEST, False
-    warns, until, looks = start + state.slow_wait, deadline, start + state.reply_timeout
+    start = monotonic()
+    warns, looks = start + state.slow_wait, start + state.reply_timeout
     try:
         while True:
-            told: Optional[Answer] = None if state.is_interrupted and not is_tried else await state.session.wait(min(until, warns, looks))
+            told: Optional[Answer] = None if state.is_interrupted else await state.session.wait(min(deadline, warns, looks))
             if told is not None:
                 break
             now = monotonic()
             if now >= warns and state.warn is not None:
                 state.warn(state.key, name, holder, now - start)
                 warns = math.inf
-            if now < until and not state.is_interrupted:
-                if now >= looks:
-                    await state.session.ask(Ask(b"status", (), _due(deadline)))
-                    looks = monotonic() + state.reply_timeout
-                continue
-            words: Answer = await state.session.ask(Ask(b"cancel", (), _due(deadline)))
-            if words[0] == b"cancelled":
-                is_interrupted, state.is_interrupted = state.is_interrupted, False
-                raise Interrupted(f"the wait for {name!r} was interrupted") if is_interrupted else Timeout(name)
-            # What is refused has ended before, which this side was told before this reply.
-            until = monotonic() + pause if words[0] == b"carried" else math.inf
-            is_tried, pause = True, min(LONGEST_PAUSE, pause * 2)
+            if now >= deadline or state.is_interrupted:
+                told = await _taken_back(state, name, deadline)
+                break
+            if now >= looks:
+                await state.session.ask(Ask(b"status", (), _due(deadline)))
+                looks = monotonic() + state.reply_timeout
     finally:
         state.waits = None
         state.waited += monotonic() - start
@@ -120,23 +107,20 @@ async def _waited(state: State, name: str, holder: str, deadline: float) -> None
         raise _refused(state, told)
 
 
-async def settle(state: State) -> None:
-    """After a call that was left: the replies to what it sent first, and what it waits for is taken back."""
-    pause = SHORTEST
-    while state.is_unsettled:
-        words: Answer = await state.session.ask(Ask(b"cancel"))
-        state.is_unsettled = words[0] == b"carried"
-        if words[-1] == b"must-abort":  # the request that was left closed a cycle
-            told: Answer = await state.session.ask(Ask(b"status"))
-            raise (await _deadlock(state, *told[1:3])) if told[0] == b"deadlock" else refusal(words[-1])
-        if state.is_unsettled:
-            await state.session.wait(monotonic() + pause)
-            pause = min(LONGEST_PAUSE, pause * 2)
+async def _taken_back(state: State, name: str, deadline: float) -> Answer:
+    """Takes the wait back, and raises. If it had ended before, returns how, which this side was told before this reply."""
+    words: Answer = await state.session.ask(Ask(b"cancel", (), _due(deadline)))
+    if words[0] == b"cancelled":
+        is_interrupted, state.is_interrupted = state.is_interrupted, False
+        raise Interrupted(f"the wait for {name!r} was interrupted") if is_interrupted else Timeout(name)
+    told: Optional[Answer] = await state.session.wait(-math.inf)
+    if told is None:
+        raise ProtocolError("the service did not take a wait back, and had not told how it ended")
+    return told
 
 
 async def asked(state: State, ask: Ask, read: Callable[[Answer], R]) -> R:
     """What is read of the answer to a request of a transaction that waits for nothing, or of none: then nothing is left."""
-    await settle(state)
     words: Answer = await state.session.ask(ask)
     state.is_over = not state.key or words[0] == b"committed"
     if words[0] == b"refused":
@@ -144,11 +128,10 @@ async def asked(state: State, ask: Ask, read: Callable[[Answer], R]) -> R:
     return read(words)
 
 
-async def abort(state: State) -> bool:
-    """Ends the transaction, whatever it does. Whether it has ended now, and not only when its wait ends."""
-    words: Answer = await state.session.ask(Ask(b"abort"))
+async def abort(state: State) -> None:
+    """Ends the transaction, whatever it does."""
+    await state.session.ask(Ask(b"abort"))
     state.is_over = True
-    return words[0] != b"later"
 
 
 async def next_told(session: Any, reply_timeout: float) -> Answer:
@@ -172,9 +155,7 @@ def _refused(state: State, words: Answer, name: bytes = b"") -> LockError:
 
 def status_of(words: Sequence[bytes]) -> Status:
     """What a transaction does, by the words of a reply."""
-    if words[0] == b"active":
-        return Status("active")
-    return Status("waiting" if words[0] == b"waiting" else "deadlock", decoded(words[1]), words[2].decode("ascii"), words[3:4] == (b"aborting",))
+    return Status("active") if words[0] == b"active" else Status("waiting", decoded(words[1]), words[2].decode("ascii"))
 
 
 def counts_of(words: Answer) -> Counts:

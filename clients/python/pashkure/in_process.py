@@ -19,15 +19,12 @@ from .wire import Answer, Ask
 L = TypeVar("L", bound="Manages")
 R = TypeVar("R")
 
-OK, HELD, WAITS, DEADLOCK, BUSY, LATER, CARRIED, _, ABORTED = range(9)
+HELD, WAITS, DEADLOCK, BUSY = range(1, 5)
 """Results of `pashkure.h`."""
-REFUSALS = dict(enumerate((b"no-transaction", b"must-abort", b"waiting", b"not-waiting", b"name-empty", b"name-too-long", b"not-owner",
-                           b"transactions-full", b"names-full", b"labels-full", b"counts-full"), 16))  # fmt: skip
-TOLD: Dict[int, Answer] = {OK: (b"granted",), ABORTED: (b"aborted",)}
+REFUSALS = {16: b"no-transaction", **dict(enumerate((b"waiting", b"not-waiting", b"name-empty", b"name-too-long", b"not-owner",
+                                                     b"transactions-full", b"names-full", b"labels-full", b"counts-full"), 18))}  # fmt: skip
 LIMITS = (8_796_093_022_207, 4_611_686_018_426_339_328)
 """The numbers of events at which `PASHKURE_LABELS_FULL` and `PASHKURE_COUNTS_FULL` begin."""
-LONGEST_CYCLE = 16
-"""Waits of a cycle that a deadlock is told with."""
 
 
 class Inside(backend.Session):
@@ -49,8 +46,7 @@ class Inside(backend.Session):
 
     def news(self) -> Optional[Answer]:
         self.check()
-        over = self._seat.told()
-        return super().news() if over is None else TOLD[over]
+        return (b"granted",) if self._seat.is_granted() else None
 
     def end(self, why: Closed = BY_DROP) -> None:
         if self.why is None:
@@ -80,17 +76,17 @@ class Inside(backend.Session):
 
     def _lock(self, names: Sequence[bytes]) -> Answer:
         for place, name in enumerate(names):
-            result, holder = self._manager.lock(self._seat, name)
+            result, *words = self._manager.lock(self._seat, name)
             if result in (WAITS, DEADLOCK):
-                return (b"waits" if result == WAITS else b"deadlock", b"%d" % place, holder)
+                return (b"waits" if result == WAITS else b"deadlock", b"%d" % place, *words)
             if result > HELD:
                 return self._refused(result)
         return (b"granted",)
 
     def _try(self, names: Sequence[bytes]) -> Answer:
-        result, holder = self._manager.try_lock(self._seat, *names)
+        result, *holder = self._manager.try_lock(self._seat, *names)
         if result == BUSY:
-            return (b"busy", holder)
+            return (b"busy", *holder)
         return self._refused(result) if result > HELD else (b"granted",)
 
     def _unlock(self, names: Sequence[bytes]) -> Answer:
@@ -103,15 +99,15 @@ class Inside(backend.Session):
 
     def _abort(self, names: Sequence[bytes]) -> Answer:
         result = self._manager.abort(self._seat)
-        return (b"later",) if result == LATER else self._refused(result) if result else (b"aborted",)
+        return self._refused(result) if result else (b"aborted",)
 
     def _cancel(self, names: Sequence[bytes]) -> Answer:
         result = self._manager.cancel(self._seat)
-        return (b"carried",) if result == CARRIED else self._refused(result) if result else (b"cancelled",)
+        return self._refused(result) if result else (b"cancelled",)
 
     def _status(self, names: Sequence[bytes]) -> Answer:
-        result, _, *wait = self._manager.status(self._seat.slot)
-        return (b"waiting" if result == WAITS else b"deadlock", *wait) if wait else (b"active",)
+        _, *wait = self._manager.status(self._seat.slot)
+        return (b"waiting", *wait) if wait else (b"active",)
 
     def _holds(self, names: Sequence[bytes]) -> Answer:
         return (b"holds", *sorted(name for name, key in self._manager.owned() if key == self._seat.key))
@@ -119,26 +115,12 @@ class Inside(backend.Session):
     def _locks(self, names: Sequence[bytes]) -> Answer:
         return (b"locks", *(word for pair in sorted(self._manager.owned()) for word in pair))
 
-    def _cycle(self, names: Sequence[bytes]) -> Answer:
-        """The waits from the victim on, until it is the holder. They stay until it is aborted."""
-        words: List[bytes] = [b"cycle"]
-        slot = self._seat.slot
-        for _ in range(LONGEST_CYCLE):
-            result, key, *wait = self._manager.status(slot)
-            if not wait:
-                return (b"cycle",)  # another thread has aborted the victim
-            words += [key, wait[0]]
-            slot = int(wait[1].split(b".")[0])
-            if slot == self._seat.slot:
-                return tuple(words)
-        return (*words, b"..")
-
     def _owner(self, names: Sequence[bytes]) -> Answer:
         key = self._manager.owner(*names)
         return (b"free",) if key is None else (b"owner", key)
 
     def _graph(self, names: Sequence[bytes]) -> Answer:
-        told = [self._manager.status(slot)[1:] for slot in range(self._slots)]
+        told = [self._manager.status(slot) for slot in range(self._slots)]
         lines = [b"* %s %s %s" % (key, *wait) for key, *wait in told if wait]
         return (b"graph", b"%d" % len(lines), *lines)
 
@@ -155,9 +137,8 @@ class Inside(backend.Session):
 
 _ANSWERS: Dict[bytes, Callable[[Inside, Sequence[bytes]], Answer]] = {
     b"begin": Inside._begin, b"lock": Inside._lock, b"try": Inside._try, b"unlock": Inside._unlock, b"commit": Inside._commit,
-    b"abort": Inside._abort, b"cancel": Inside._cancel, b"status": Inside._status, b"holds": Inside._holds, b"cycle": Inside._cycle,
-    b"owner": Inside._owner, b"totals": Inside._totals, b"fence": Inside._fence, b"locks": Inside._locks, b"graph": Inside._graph,
-    b"counts": Inside._counts,
+    b"abort": Inside._abort, b"cancel": Inside._cancel, b"status": Inside._status, b"holds": Inside._holds, b"owner": Inside._owner,
+    b"totals": Inside._totals, b"fence": Inside._fence, b"locks": Inside._locks, b"graph": Inside._graph, b"counts": Inside._counts,
 }  # fmt: skip
 
 

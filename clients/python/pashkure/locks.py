@@ -125,10 +125,9 @@ class Operator(Closes):
         """The names that the transaction with this key owns, in the order of their bytes."""
         return self._ask(b"holds", lambda words: [decoded(word) for word in words[1:]], key_bytes(key))
 
-    def abort(self, key: str) -> bool:
-        """Aborts the transaction with this key: its call that waits, or its next one, raises `Aborted`. Whether it has ended now, and not only
-        when its wait ends."""
-        return self._ask(b"abort", lambda words: words[0] == b"aborted", key_bytes(key))
+    def abort(self, key: str) -> None:
+        """Aborts the transaction with this key, whatever it does: its call that waits, or its next one, raises `Aborted`."""
+        return self._ask(b"abort", lambda words: None, key_bytes(key))
 
     def graph(self) -> List[Wait]:
         """All waits."""
@@ -143,7 +142,8 @@ class Operator(Closes):
         return self._ask(b"clients", lambda words: [Client(*map(int, line.split(b" ")[1:5])) for line in words[2:]])
 
     def deadlocks(self) -> Iterator[Tuple[Wait, ...]]:
-        """Each deadlock from now on, as its waits, the victim's first, over a connection of its own. Raises `Closed` at its end."""
+        """Each deadlock from now on, as its waits, first the one that was refused, over a connection of its own. Raises `Closed` at its
+        end."""
         session = now(self._backend.find, math.inf)
         told: Iterator[Answer] = iter(lambda: now(next_told, session, self._backend.reply_timeout), None)
         return (cycle_of(words[1:]) for words in told)

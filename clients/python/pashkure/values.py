@@ -58,16 +58,15 @@ def seconds(value: Optional[float], what: str = "a timeout") -> float:
 
 @dataclass(frozen=True)
 class Status:
-    """What a transaction does: the name that it asked for, who owned that, and whether it is aborted as soon as its wait ends."""
-    state: Literal["active", "waiting", "deadlock"]
+    """What a transaction does: if it waits, the name that it waits for, and who owns that."""
+    state: Literal["active", "waiting"]
     name: Optional[str] = None
     holder: Optional[str] = None
-    aborting: bool = False
 
 
 @dataclass(frozen=True)
 class Totals:
-    """What the service has counted since its start. `deadlocks` are the requests that were told of one."""
+    """What the service has counted since its start. `deadlocks` are the requests that were refused for one."""
     begun: int
     committed: int
     aborted: int

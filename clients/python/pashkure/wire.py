@@ -35,10 +35,10 @@ def _pattern(text: bytes) -> "re.Pattern[bytes]":
 REPLIES = {
     word: _pattern(text + rb"|refused(?: #)? [a-z]+(?:-[a-z]+)*")
     for word, text in {
-        b"begin": rb"begun KEY(?: (?:waits|deadlock) # KEY| refused # [a-z-]+)?", b"lock": rb"granted|held|(?:waits|deadlock)(?: #)? KEY",
-        b"try": rb"granted|held|busy KEY", b"unlock": rb"unlocked", b"commit": rb"committed", b"abort": rb"aborted|later",
-        b"cancel": rb"cancelled|carried", b"owner": rb"owner KEY|free", b"status": rb"active|(?:waiting|deadlock) NAME KEY(?: aborting)?",
-        b"holds": rb"holds(?: NAME)*", b"cycle": rb"cyclePAIRS", b"fence": rb"fence # #", b"totals": rb"totals(?: #){4}",
+        b"begin": rb"begun KEY(?: waits # KEY| deadlock #PAIRS| refused # [a-z-]+)?",
+        b"lock": rb"granted|held|waits(?: #)? KEY|deadlock(?: #)?PAIRS", b"try": rb"granted|held|busy KEY", b"unlock": rb"unlocked",
+        b"commit": rb"committed", b"abort": rb"aborted", b"cancel": rb"cancelled", b"owner": rb"owner KEY|free",
+        b"status": rb"active|waiting NAME KEY", b"holds": rb"holds(?: NAME)*", b"fence": rb"fence # #", b"totals": rb"totals(?: #){4}",
         b"hello": rb"hello(?: #){5}MORE", b"counts": rb"counts(?: #){9}MORE", b"graph": rb"graph #", b"list": rb"list #", b"clients": rb"clients #",
     }.items()
 }  # fmt: skip
@@ -47,7 +47,7 @@ PLAIN = (b"begin", b"owner", b"totals", b"hello")
 EVENT = _pattern(rb"\* (?:granted KEY NAME|aborted KEY|deadlockPAIRS)")
 LINES = {
     b"graph": _pattern(rb"\* KEY NAME KEY"),
-    b"list": _pattern(rb"\* KEY (?:#|-) (?:active|(?:waiting|deadlock) NAME KEY(?: aborting)?)MORE"),
+    b"list": _pattern(rb"\* KEY # (?:active|waiting NAME KEY)MORE"),
     b"clients": _pattern(rb"\* # # # #MORE"),
 }
 """The lines that follow a reply, for the requests whose replies have some."""
@@ -89,8 +89,6 @@ class Conversation:
     def send(self, call: Call) -> bytes:
         """The line of a request. Its reply is due from now on."""
         ask, key = call.ask, call.party.key
-        if ask.word == b"lock":
-            call.party.told.clear()
         self.pending.append(call)
         words = (ask.word, key, *ask.names) if key and ask.word not in PLAIN else (ask.word, *ask.names)
         return b" ".join(words) + b"\n"
@@ -111,12 +109,10 @@ class Conversation:
         owed, self._owed = self._owed, b""
         return owed
 
-    def abandon(self, call: Call) -> bytes:
-        """Nobody waits for the call any more. What takes it back: a lock is cancelled, and a transaction that begins is aborted, now or
-        as soon as its key is known."""
-        if call.ask.word == b"begin":
-            return self.drop(call.party)
-        return self.send(Call(Ask(b"cancel"), call.party)) if call.ask.word == b"lock" else b""
+    def abandon(self, party: Party) -> bytes:
+        """A call of the transaction was left. What takes it back: what it waits for is cancelled, and one that begins is aborted as soon as its
+        key is known."""
+        return self.send(Call(Ask(b"cancel"), party)) if party.key in self._live else self.drop(party)
 
     def drop(self, party: Party) -> bytes:
         """What ends the transaction, whatever it does."""
@@ -145,6 +141,8 @@ class Conversation:
         if word in LINES and self._words[0] == word and len(self._words) < 2 + int(self._words[1]):
             return
         self.pending.popleft()
+        if word in (b"begin", b"lock"):
+            party.told.clear()  # of waits before
         words = call.answer = tuple(self._words)
         self._words = []
         if words[0] == b"begun":

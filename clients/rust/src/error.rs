@@ -44,8 +44,6 @@ results! {
     Refusal {
         /// The key is of no live transaction: it has ended, or never was.
         NoTransaction = 16,
-        /// The transaction was told [`Lock::Deadlock`](crate::Lock::Deadlock), and can only be aborted.
-        MustAbort = 17,
         /// The transaction waits, and makes no request until it is woken.
         Waiting = 18,
         /// The transaction does not wait, so there is no wait to take back.
@@ -68,17 +66,18 @@ results! {
 }
 
 results! {
-    /// Why a call of a [`Transaction`](crate::Transaction) or of [`Locks::begin`](crate::Locks::begin) fails. After each of these but `Deadlock`
-    /// and `MustAbort` the transaction may go on with what it owns.
+    /// Why a call of a [`Transaction`](crate::Transaction) or of [`Locks::begin`](crate::Locks::begin) fails. After each of these the transaction
+    /// may go on with what it owns.
     LockError {
-        /// The request would have closed a cycle of waits. The transaction keeps what it owns until it is rolled back, which is all that is left.
+        /// The wait would close a cycle of waits, which [`Transaction::cycle`](crate::Transaction::cycle) has. The transaction does not wait.
+        ///
+        /// Give back what others wait for before you ask again: unlock what was locked since a savepoint, or roll back. Who asks again at once
+        /// gets this error again, and stops all on the cycle: each of them waits, at the end, for this very transaction.
         Deadlock = 3,
         /// The time is over, and the transaction waits no longer.
         TimedOut = 9,
         /// Another thread has called [`Locks::interrupt`](crate::Locks::interrupt), and the transaction waits no longer.
         Interrupted = 10,
-        /// The transaction was told `Deadlock` before, and can only be rolled back.
-        MustAbort = 17,
         /// The transaction waits for the name of its [`ask`](crate::Transaction::ask), and makes no other request until it is woken.
         Waiting = 18,
         /// The name has no bytes.

@@ -82,15 +82,14 @@ impl Locks {
         self.new_key().map(|key| Transaction::new(Arc::clone(self), key))
     }
 
-    /// Interrupts a transaction, which mostly is another thread's (a killed query, a shut-down): its wait, or its next request, fails as
-    /// [`LockError::Interrupted`], once. It keeps what it owns. If it waits behind a victim, it waits on until that one is rolled back. In a
-    /// deadlock this changes nothing. Returns false if the transaction has ended.
+    /// Interrupts a transaction, which mostly is another thread's (a killed query, a shut-down): its wait at once, or else its next request, fails
+    /// as [`LockError::Interrupted`], once. It keeps what it owns. Returns false if the transaction has ended.
     pub fn interrupt(&self, key: Key) -> bool {
         // SAFETY of the calls here: the locks are open until they are dropped.
         unsafe { sys::pashkure_locks_interrupt(self.raw(), key) == sys::OK }
     }
 
-    /// Stops all requests and ends while this reads one moment: all locks, all waits, a whole deadlock. It takes time by the number of buckets.
+    /// Stops all requests and ends while this reads one moment: all locks and all waits. It takes time by the number of buckets.
     /// Let it read quickly. It makes no other call on these locks, not even by a transaction: such a call waits for ever. If the locks know of
     /// more names than [`Config::new`] allows at a time, some are not seen.
     ///
@@ -103,17 +102,6 @@ impl Locks {
     /// ```
     pub fn view<T>(&self, read: impl FnOnce(&View<'_>) -> T) -> T {
         let _has_all = unsafe { sys::pashkure_locks_hold_all(self.raw()) } == sys::OK;
-        self.read_held(read)
-    }
-
-    /// As `view`, but shows only the waits, and the names that somebody asked for while another one owned them. Brings no names together.
-    pub(crate) fn view_waits<T>(&self, read: impl FnOnce(&View<'_>) -> T) -> T {
-        unsafe { sys::pashkure_locks_hold(self.raw()) };
-        self.read_held(read)
-    }
-
-    /// Reads, and gives the mutex back, which this thread has taken.
-    fn read_held<T>(&self, read: impl FnOnce(&View<'_>) -> T) -> T {
         let _held = Held(self);
         read(&View::new(Viewed::Locks(self.raw()), &self.config))
     }

@@ -16,11 +16,12 @@ use std::ptr;
 /// assert_eq!(manager.lock(there, "accounts/1")?, Lock::Owned(Owned::New));
 /// assert_eq!(manager.lock(back, "accounts/2")?, Lock::Owned(Owned::New));
 /// assert_eq!(manager.lock(there, "accounts/2")?, Lock::Waits);
-/// assert_eq!(manager.lock(back, "accounts/1")?, Lock::Deadlock); // first undo what `back` did
-/// for woken in manager.abort(back)?.into_iter().flatten() {
+/// assert_eq!(manager.lock(back, "accounts/1")?, Lock::Deadlock); // and `back` goes on; first it undoes what it did to accounts/2
+/// for woken in manager.unlock(back, "accounts/2")? {
 ///     assert_eq!(woken.key, there); // which owns accounts/2 now
 /// }
-/// let _nobody_waited = manager.commit(there)?;
+/// assert_eq!(manager.lock(back, "accounts/1")?, Lock::Waits);
+/// assert_eq!(manager.commit(there)?.next().map(|woken| woken.key), Some(back));
 /// # Ok::<_, Box<dyn std::error::Error>>(())
 /// ```
 ///
@@ -63,10 +64,11 @@ impl LockManager {
         done(result).map(|()| key)
     }
 
-    /// Asks for a name. Those that wait for one name are given it in the order in which they asked.
+    /// Asks for a name. Those that wait for one name are given it in the order in which they asked. Right after [`Lock::Deadlock`] the
+    /// [`View::waits_from`] of the owner of the name are the waits of the cycle, which lead to this transaction.
     ///
     /// # Errors
-    /// `NoTransaction`, `MustAbort`, `Waiting`, `CountsFull`, `NameEmpty`, `NameTooLong`, `NamesFull`, `LabelsFull`.
+    /// `NoTransaction`, `Waiting`, `CountsFull`, `NameEmpty`, `NameTooLong`, `NamesFull`, `LabelsFull`.
     pub fn lock(&mut self, key: Key, name: impl AsRef<[u8]>) -> Result<Lock, Refusal> {
         let name = name.as_ref();
         match unsafe { sys::pashkure_lock(&mut self.raw, key, name.as_ptr().cast(), name.len()) } {
@@ -91,7 +93,7 @@ impl LockManager {
     /// Gives one name back.
     ///
     /// # Errors
-    /// `NoTransaction`, `MustAbort`, `Waiting`, `NameEmpty`, `NameTooLong`, `NotOwner`.
+    /// `NoTransaction`, `Waiting`, `NameEmpty`, `NameTooLong`, `NotOwner`.
     pub fn unlock(&mut self, key: Key, name: impl AsRef<[u8]>) -> Result<Woken<'_>, Refusal> {
         let name = name.as_ref();
         done(unsafe { sys::pashkure_unlock(&mut self.raw, key, name.as_ptr().cast(), name.len()) })?;
@@ -101,34 +103,27 @@ impl LockManager {
     /// Ends the transaction, and gives back all that it owns.
     ///
     /// # Errors
-    /// `NoTransaction`, `MustAbort`, `Waiting`.
+    /// `NoTransaction`, `Waiting`.
     pub fn commit(&mut self, key: Key) -> Result<Woken<'_>, Refusal> {
         done(unsafe { sys::pashkure_commit(&mut self.raw, key) })?;
         Ok(self.woken())
     }
 
-    /// Ends a transaction in any state, and gives back all that it owns; so undo its work first. `None` if it waits behind a victim that has
-    /// yet to be aborted: then it ends in the call that ends its wait.
+    /// Ends a transaction, also one that waits, and gives back all that it owns; so undo its work first.
     ///
     /// # Errors
     /// `NoTransaction`.
-    pub fn abort(&mut self, key: Key) -> Result<Option<Woken<'_>>, Refusal> {
-        match unsafe { sys::pashkure_abort(&mut self.raw, key) } {
-            sys::LATER => Ok(None),
-            result => done(result).map(|()| Some(self.woken())),
-        }
+    pub fn abort(&mut self, key: Key) -> Result<Woken<'_>, Refusal> {
+        done(unsafe { sys::pashkure_abort(&mut self.raw, key) })?;
+        Ok(self.woken())
     }
 
-    /// Takes the wait of the transaction back, as after a time-out; it goes on with what it owns, or has ended if its abort was to come later.
-    /// `None` if it waits behind a victim that has yet to be aborted: then it waits on, and this may be tried again after an abort.
+    /// Takes the wait of the transaction back, as after a time-out; it goes on with what it owns. Ends no other wait.
     ///
     /// # Errors
-    /// `NoTransaction`, `MustAbort`; `NotWaiting` if it was given the name before.
-    pub fn cancel(&mut self, key: Key) -> Result<Option<Woken<'_>>, Refusal> {
-        match unsafe { sys::pashkure_cancel(&mut self.raw, key) } {
-            sys::CARRIED => Ok(None),
-            result => done(result).map(|()| Some(self.woken())),
-        }
+    /// `NoTransaction`; `NotWaiting` if it was given the name before.
+    pub fn cancel(&mut self, key: Key) -> Result<(), Refusal> {
+        done(unsafe { sys::pashkure_cancel(&mut self.raw, key) })
     }
 
     /// To read the manager.
@@ -156,8 +151,7 @@ fn done(result: u32) -> Result<(), Refusal> {
     }
 }
 
-/// Whose waits a call ended, in order. If one is named twice, it was given its name and has ended then: the later one counts. No other call
-/// changes the manager before this is dropped.
+/// Whose waits a call ended, in order. No other call changes the manager before this is dropped.
 #[must_use = "a transaction that is not woken waits for ever"]
 #[derive(Debug)]
 pub struct Woken<'m> {
@@ -175,6 +169,6 @@ impl Iterator for Woken<'_> {
             return None;
         }
         self.next += 1;
-        Some(Wake { key: woken.key, number: (woken.result == sys::OK).then_some(woken.number) })
+        Some(Wake { key: woken.key, number: woken.number })
     }
 }

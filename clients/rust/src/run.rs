@@ -4,7 +4,7 @@ use crate::{LockError, Locks, Transaction};
 use std::thread;
 use std::time::Duration;
 
-/// How often the thread of a victim yields its processor first. Often the others come to their ends in that time.
+/// How often a thread yields its processor first after a deadlock. Often the others come to their ends in that time.
 const YIELDS: u32 = 256;
 
 /// The bound of the first pause, in microseconds.
@@ -16,11 +16,11 @@ const DOUBLES: u32 = 10;
 impl Locks {
     /// Begins a transaction, lends it to the work, commits it, and returns what the work returned.
     ///
-    /// If the transaction is told `Deadlock`, it is rolled back, whatever the work made of that error; after a pause all is done again in a new
+    /// If the work fails after `Deadlock`, and has unlocked nothing since, the transaction is rolled back; after a pause all is done again in a new
     /// transaction, in all at most `attempts` times, and at least once. In a pause the thread yields its processor 256 times, and then sleeps for
     /// a random time, below 32 microseconds at first, and below twice the bound each next time, up to 33 milliseconds. If the work fails
     /// otherwise, the transaction is rolled back. The locks do not know what the work wrote: it undoes that before it returns an error, or locks
-    /// all names before it writes.
+    /// all names before it writes. Work that goes back to a savepoint after `Deadlock` and then succeeds is committed.
     ///
     /// ```
     /// # use pashkure::{Config, LockError, Locks};
@@ -44,7 +44,7 @@ impl Locks {
         for attempt in 1.. {
             let mut transaction = self.begin()?;
             let result = work(&mut transaction);
-            if !transaction.is_victim() || attempt >= attempts {
+            if result.is_ok() || !transaction.is_in_deadlock() || attempt >= attempts {
                 let value = result?;
                 transaction.commit()?;
                 return Ok(value);

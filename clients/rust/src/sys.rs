@@ -13,8 +13,6 @@ pub const HELD: u32 = 1;
 pub const WAITS: u32 = 2;
 pub const DEADLOCK: u32 = 3;
 pub const BUSY: u32 = 4;
-pub const LATER: u32 = 5;
-pub const CARRIED: u32 = 6;
 pub const NOT_ASKED: u32 = 11;
 
 #[derive(Debug)]
@@ -40,7 +38,6 @@ pub struct Config {
 pub struct Wake {
     pub key: Key,
     pub number: u32,
-    pub result: u32,
 }
 
 #[derive(Default)]
@@ -49,7 +46,6 @@ pub struct Seen {
     pub key: Key,
     pub holder: Key,
     pub number: u32,
-    pub is_aborting: u32,
 }
 
 #[derive(Default)]
@@ -63,6 +59,15 @@ pub struct Counts {
     pub withdrawn: u64,
     pub events: u64,
     pub reserved: u64,
+}
+
+#[derive(Clone, Copy)]
+#[repr(C)]
+pub struct Wait {
+    pub key: Key,
+    pub holder: Key,
+    pub name: *const c_void,
+    pub length: usize,
 }
 
 #[derive(Clone, Copy)]
@@ -108,7 +113,7 @@ extern "C" {
     pub fn pashkure_locks_unlock(locks: *mut Locks, key: Key, name: *const c_void, length: usize) -> u32;
     pub fn pashkure_locks_commit(locks: *mut Locks, key: Key) -> u32;
     pub fn pashkure_locks_abort(locks: *mut Locks, key: Key) -> u32;
-    pub fn pashkure_locks_hold(locks: *mut Locks);
+    pub fn pashkure_locks_cycle(locks: *mut Locks, key: Key, waits: *mut Wait, room: usize) -> usize;
     pub fn pashkure_locks_hold_all(locks: *mut Locks) -> u32;
     pub fn pashkure_locks_let_go(locks: *mut Locks);
     pub fn pashkure_locks_look(locks: *mut Locks, slot: u32, seen: *mut Seen) -> u32;

@@ -2,10 +2,14 @@
 use crate::wait::Wait;
 use crate::{sys, Key, LockAllError, LockError, Locks, Owned};
 use std::borrow::Borrow;
+use std::slice;
 use std::time::{Duration, Instant};
 
 /// How many names one call of the library is given.
 const AT_ONCE: usize = 16;
+
+/// How many waits of a deadlock the library keeps.
+const CYCLE: usize = 16;
 
 /// A transaction, which owns names until it ends. It belongs to no thread, and is `Send`.
 ///
@@ -30,12 +34,12 @@ pub struct Transaction<L: Borrow<Locks>> {
     key: Key,
     wait: Option<Wait>,
     is_over: bool,
-    is_victim: bool,
+    is_in_deadlock: bool,
 }
 
 impl<L: Borrow<Locks>> Transaction<L> {
     pub(crate) fn new(locks: L, key: Key) -> Transaction<L> {
-        Transaction { locks, key, wait: None, is_over: false, is_victim: false }
+        Transaction { locks, key, wait: None, is_over: false, is_in_deadlock: false }
     }
 
     /// Its key: for [`Locks::interrupt`], and for what you keep of each transaction by its slot.
@@ -46,14 +50,14 @@ impl<L: Borrow<Locks>> Transaction<L> {
     /// Locks a name: sleeps until the transaction owns it. Those that wait for one name are given it in the order in which they asked.
     ///
     /// # Errors
-    /// `Deadlock` at once, if the wait would close a cycle of waits. A transaction that sleeps is never a victim. `Interrupted`, `MustAbort`,
-    /// `Waiting`, `CountsFull`, `NameEmpty`, `NameTooLong`, `NamesFull`, `LabelsFull`.
+    /// `Deadlock` at once, if the wait would close a cycle of waits. A transaction that sleeps never gets it. `Interrupted`, `Waiting`,
+    /// `CountsFull`, `NameEmpty`, `NameTooLong`, `NamesFull`, `LabelsFull`.
     pub fn lock(&mut self, name: impl AsRef<[u8]>) -> Result<Owned, LockError> {
         let told = self.request(name.as_ref(), sys::FOREVER);
         owned(told)
     }
 
-    /// As [`Transaction::lock`], but sleeps no longer than this time. One that waits behind a victim sleeps until that victim is rolled back.
+    /// As [`Transaction::lock`], but sleeps no longer than this time.
     ///
     /// # Errors
     /// `TimedOut`, not before the time is over: the transaction goes on with what it owns. Else as `lock`. With no time at all `TimedOut` comes
@@ -140,22 +144,50 @@ impl<L: Borrow<Locks>> Transaction<L> {
     /// Gives one name back, to the transaction that has waited for it longest.
     ///
     /// # Errors
-    /// `MustAbort`, `Waiting`, `NameEmpty`, `NameTooLong`, `NotOwner`.
+    /// `Waiting`, `NameEmpty`, `NameTooLong`, `NotOwner`.
     pub fn unlock(&mut self, name: impl AsRef<[u8]>) -> Result<(), LockError> {
         let name = name.as_ref();
         // SAFETY: as in `request`.
-        done(unsafe { sys::pashkure_locks_unlock(self.raw(), self.key, name.as_ptr().cast(), name.len()) })
+        done(unsafe { sys::pashkure_locks_unlock(self.raw(), self.key, name.as_ptr().cast(), name.len()) })?;
+        self.is_in_deadlock = false;
+        Ok(())
     }
 
-    /// After `Deadlock`: the waits, from this transaction on until it is the holder. Else empty. Takes the mutex, and time by the waits.
+    /// What the last `Deadlock` was about, as it was in the moment of the answer: the wait that was refused, and then each time that of the
+    /// holder. Empty if there was none, or while the transaction waits. At most 16 waits, whose names have 1,024 bytes together: if there are
+    /// more, the last holder is not this transaction.
+    ///
+    /// ```
+    /// # let locks = pashkure::Locks::open(&pashkure::Config::new(16, 100))?;
+    /// use pashkure::LockError;
+    ///
+    /// let (mut there, mut back) = (locks.begin()?, locks.begin()?);
+    /// there.lock("accounts/1")?;
+    /// back.lock("accounts/2")?;
+    /// there.ask("accounts/2", |told| assert_eq!(told, Ok(())))?; // it waits
+    /// assert_eq!(back.lock("accounts/1"), Err(LockError::Deadlock));
+    /// for wait in back.cycle() {
+    ///     println!("{} waits for {} of {}", wait.key, String::from_utf8_lossy(&wait.name), wait.holder);
+    /// }
+    /// back.unlock("accounts/2")?; // and `there` owns it
+    /// there.commit()?;
+    /// back.lock_all(&["accounts/1", "accounts/2"])?;
+    /// back.commit()?;
+    /// # Ok::<_, Box<dyn std::error::Error>>(())
+    /// ```
     pub fn cycle(&self) -> Vec<crate::Wait> {
-        self.locks.borrow().view_waits(|view| view.cycle(self.key))
+        let none = sys::Wait { key: self.key, holder: self.key, name: [].as_ptr(), length: 0 };
+        let mut waits = [none; CYCLE];
+        // SAFETY: as in `request`. The names stay until the next request of this transaction.
+        let count = unsafe { sys::pashkure_locks_cycle(self.raw(), self.key, waits.as_mut_ptr(), CYCLE) };
+        let bytes = |wait: &sys::Wait| unsafe { slice::from_raw_parts(wait.name.cast::<u8>(), wait.length) };
+        waits[..count].iter().map(|wait| crate::Wait { key: wait.key, name: bytes(wait).to_vec(), holder: wait.holder }).collect()
     }
 
     /// Ends the transaction, and gives back all that it owns. Names pass on one after another: others may own some before this returns.
     ///
     /// # Errors
-    /// `MustAbort` after `Deadlock`, `Waiting` while it waits: then it is rolled back.
+    /// `Waiting` while it waits: then it is rolled back.
     pub fn commit(mut self) -> Result<(), LockError> {
         // SAFETY: as in `request`.
         done(unsafe { sys::pashkure_locks_commit(self.raw(), self.key) })?;
@@ -166,9 +198,9 @@ impl<L: Borrow<Locks>> Transaction<L> {
     /// Rolls the transaction back, as a drop does.
     pub fn roll_back(self) {}
 
-    /// Whether a request was told `Deadlock`.
-    pub(crate) fn is_victim(&self) -> bool {
-        self.is_victim
+    /// Whether a request was told `Deadlock`, and nothing was given back since.
+    pub(crate) fn is_in_deadlock(&self) -> bool {
+        self.is_in_deadlock
     }
 
     fn raw(&self) -> *mut sys::Locks {
@@ -202,7 +234,7 @@ impl<L: Borrow<Locks>> Transaction<L> {
     }
 
     fn note(&mut self, told: u32) {
-        self.is_victim |= told == sys::DEADLOCK;
+        self.is_in_deadlock |= told == sys::DEADLOCK;
     }
 }
 

@@ -9,8 +9,8 @@ pub(crate) fn random() -> u64 {
     RandomState::new().build_hasher().finish()
 }
 
-/// The numbers with which a manager is opened. It takes at most `(name_bytes + 71) * names + 102 * transactions + 1,200` bytes, and
-/// [`Locks`](crate::Locks) 16 bytes more a bucket, 12 a name, and some 2,000 a transaction.
+/// The numbers with which a manager is opened. It takes at most `(name_bytes + 71) * names + 81 * transactions + 1,000` bytes, and
+/// [`Locks`](crate::Locks) 16 bytes more a bucket, 12 a name, and some 3,600 a transaction.
 #[derive(Clone, Debug)]
 pub struct Config {
     pub(crate) transactions: u32,
@@ -88,14 +88,15 @@ impl Owned {
 }
 
 /// The answer to a request of a [`LockManager`](crate::LockManager).
-#[must_use = "a transaction that waits or is to be aborted does not own the name"]
+#[must_use = "a transaction that waits, or was refused for a deadlock, does not own the name"]
 #[derive(Clone, Copy, Debug, PartialEq, Eq)]
 pub enum Lock {
     /// The transaction owns the name.
     Owned(Owned),
-    /// It waits, and is never a victim later. Some call's [`Woken`](crate::Woken) will name it.
+    /// It waits, and is never told of a deadlock. Some call's [`Woken`](crate::Woken) will name it.
     Waits,
-    /// Its request closed a cycle of waits. It keeps what it owns: undo its work, and abort it.
+    /// Its wait would close a cycle of waits: it does not wait, and goes on with what it owns. Unlock what was locked since a savepoint, or abort
+    /// it, before it asks again: until then the answer is the same, and no other one on the cycle can go on.
     Deadlock,
 }
 
@@ -104,8 +105,8 @@ pub enum Lock {
 pub struct Wake {
     /// Whose wait.
     pub key: Key,
-    /// The number of the name that it owns now; `None` if its abort came due, and it has ended.
-    pub number: Option<u32>,
+    /// The number of the name that it owns now.
+    pub number: u32,
 }
 
 /// What a live transaction does.
@@ -116,15 +117,6 @@ pub enum Status {
     /// It waits.
     Waiting {
         /// The number of the name for which it waits.
-        number: u32,
-        /// Who owns that name.
-        holder: Key,
-        /// Whether it ends when its wait does, since it was aborted.
-        aborting: bool,
-    },
-    /// It was told of a deadlock, and is to be aborted.
-    Deadlock {
-        /// The number of the name that it asked for.
         number: u32,
         /// Who owns that name.
         holder: Key,
@@ -140,7 +132,7 @@ pub struct Seen {
     pub status: Status,
 }
 
-/// A wait of a deadlock.
+/// A wait: of [`View::waits_from`](crate::View::waits_from), or of the cycle of a deadlock.
 #[derive(Clone, Debug, PartialEq, Eq)]
 pub struct Wait {
     /// Who waits.
@@ -161,7 +153,7 @@ pub struct Totals {
     pub committed: u64,
     /// Transactions that were aborted.
     pub aborted: u64,
-    /// Requests that closed a cycle of waits.
+    /// Requests whose wait would have closed a cycle of waits.
     pub deadlocks: u64,
     /// Requests that had to wait.
     pub waits: u64,

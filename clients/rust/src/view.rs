@@ -56,20 +56,13 @@ impl<'l> View<'l> {
         self.owned(number).map(|(name, _)| name)
     }
 
-    /// The waits in the deadlock of this transaction: first itself, then each time the holder, until the holder is the transaction
-    /// again. Empty if it was not told of a deadlock, or has ended.
-    pub fn cycle(&self, key: Key) -> Vec<Wait> {
+    /// The waits from this transaction on, each time that of the holder, to one that does not wait. Empty if this one does not.
+    pub fn waits_from(&self, key: Key) -> Vec<Wait> {
         let mut waits = Vec::new();
         let mut at = key;
-        if !matches!(self.status(key), Some(Status::Deadlock { .. })) {
-            return waits;
-        }
-        while let Some(Status::Waiting { number, holder, .. } | Status::Deadlock { number, holder }) = self.status(at) {
+        while let Some(Status::Waiting { number, holder }) = self.status(at) {
             waits.push(Wait { key: at, name: self.name(number).unwrap_or_default(), holder });
             at = holder;
-            if at == key {
-                break;
-            }
         }
         waits
     }
@@ -92,11 +85,10 @@ impl<'l> View<'l> {
             Viewed::Manager(core) => unsafe { sys::pashkure_look(core, slot, &mut seen) },
             Viewed::Locks(locks) => unsafe { sys::pashkure_locks_look(locks, slot, &mut seen) },
         };
-        let sys::Seen { key, holder, number, is_aborting } = seen;
+        let sys::Seen { key, holder, number } = seen;
         let status = match result {
             sys::OK => Status::Active,
-            sys::WAITS => Status::Waiting { number, holder, aborting: is_aborting != 0 },
-            sys::DEADLOCK => Status::Deadlock { number, holder },
+            sys::WAITS => Status::Waiting { number, holder },
             _ => return None,
         };
         Some(Seen { key, status })

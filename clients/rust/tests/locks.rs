@@ -57,6 +57,10 @@ fn a_drop_rolls_back() {
     assert_eq!(locks.view(live), 0);
 }
 
+fn wait(key: Key, name: &str, holder: Key) -> Wait {
+    Wait { key, name: name.into(), holder }
+}
+
 #[test]
 fn a_deadlock_is_told_with_its_cycle() {
     let locks = opened();
@@ -67,13 +71,49 @@ fn a_deadlock_is_told_with_its_cycle() {
         scope.spawn(move || assert_eq!(second.lock(b"x"), Ok(Owned::New)));
         until_waits(&locks, two);
         assert_eq!(first.lock(b"y"), Err(LockError::Deadlock));
-        let wait = |key, name: &str, holder| Wait { key, name: name.into(), holder };
         assert_eq!(first.cycle(), [wait(one, "y", two), wait(two, "x", one)]);
-        assert_eq!(first.lock(b"z"), Err(LockError::MustAbort));
-        assert_eq!(first.commit(), Err(LockError::MustAbort)); // and it is rolled back
+        assert_eq!(locks.view(|view| (view.status(one), view.waits_from(two))), (Some(Status::Active), vec![wait(two, "x", one)]));
+        assert_eq!(first.lock(b"z"), Ok(Owned::New)); // it goes on
+        assert_eq!(first.try_lock(b"y"), Ok(None));
+        assert_eq!(first.lock_all(&["z", "y"]), failed(&[Owned::Before], LockError::Deadlock)); // again, since it gave nothing back
+        assert_eq!(first.cycle().len(), 2);
+        assert_eq!(first.commit(), Ok(()));
     });
     let totals = locks.view(|view| view.totals());
-    assert_eq!((totals.deadlocks, totals.aborted), (1, 2));
+    assert_eq!((totals.deadlocks, totals.committed, totals.aborted), (2, 1, 1));
+}
+
+#[test]
+fn both_of_a_deadlock_commit_by_a_savepoint() {
+    let locks = opened();
+    let (mut first, mut second) = (owner(&locks, "x"), owner(&locks, "y"));
+    let two = second.key();
+    assert_eq!(first.lock("z"), Ok(Owned::New)); // behind its savepoint
+    thread::scope(|scope| {
+        scope.spawn(move || {
+            assert_eq!(second.lock("z"), Ok(Owned::New));
+            second.commit().unwrap();
+        });
+        until_waits(&locks, two);
+        assert_eq!(first.lock("y"), Err(LockError::Deadlock));
+        first.unlock("z").unwrap();
+        assert_eq!(first.lock_all(&["x", "y", "z"]), Ok(vec![Owned::Before, Owned::New, Owned::New]));
+        first.commit().unwrap();
+    });
+    let totals = locks.view(|view| view.totals());
+    assert_eq!((totals.deadlocks, totals.committed, totals.aborted), (1, 2, 0));
+}
+
+#[test]
+fn a_wait_for_one_that_was_told_of_a_deadlock_times_out() {
+    let locks = opened();
+    let (mut first, mut second, mut third) = (owner(&locks, "x"), owner(&locks, "y"), locks.begin().unwrap());
+    assert_eq!(second.ask("x", |told| assert_eq!(told, Ok(()))), Ok(None));
+    assert_eq!(first.lock("y"), Err(LockError::Deadlock));
+    assert_eq!(third.lock_for("x", SHORT), Err(LockError::TimedOut));
+    assert_eq!(third.lock_for("y", SHORT), Err(LockError::TimedOut));
+    first.roll_back();
+    assert_eq!(second.lock("x"), Ok(Owned::Before));
 }
 
 #[test]
@@ -248,7 +288,7 @@ fn a_view_is_one_moment() {
             let seen: Vec<Seen> = view.transactions().collect();
             assert_eq!(seen[0], Seen { key: one, status: Status::Active });
             assert_eq!((seen.len(), seen[1].key), (2, two));
-            assert!(matches!(seen[1].status, Status::Waiting { number, holder, aborting: false }
+            assert!(matches!(seen[1].status, Status::Waiting { number, holder }
                 if holder == one && view.name(number) == Some(b"x".to_vec())));
             let mut owned: Vec<_> = view.locks().collect();
             owned.sort();
@@ -313,6 +353,43 @@ fn run_with_a_deadlock(attempts: u32) -> (Result<u32, Failed>, u32, u64) {
 fn run_tries_again_after_a_deadlock() {
     assert_eq!(run_with_a_deadlock(2), (Ok(7), 2, 1));
     assert_eq!(run_with_a_deadlock(1), (Err(Failed::Lock(LockError::Deadlock)), 1, 0));
+}
+
+#[test]
+fn run_commits_what_went_back_to_a_savepoint() {
+    let locks = opened();
+    let mut other = Some(owner(&locks, "y"));
+    let result = thread::scope(|scope| {
+        locks.run(1, |transaction| {
+            transaction.lock_all(&["w", "x"])?;
+            let mut other = other.take().unwrap();
+            let key = other.key();
+            scope.spawn(move || other.lock("x").unwrap());
+            until_waits(&locks, key);
+            assert_eq!(transaction.lock("y"), Err(LockError::Deadlock));
+            transaction.unlock("x")?;
+            transaction.lock("y").map(|_| transaction.key())
+        })
+    });
+    assert!(result.is_ok());
+    let totals = locks.view(|view| view.totals());
+    assert_eq!((totals.deadlocks, totals.committed, totals.aborted), (1, 1, 1));
+}
+
+#[test]
+fn run_does_not_try_again_after_another_error() {
+    let locks = opened();
+    let (mut first, mut other, mut count) = (locks.begin().unwrap(), owner(&locks, "y"), 0);
+    assert_eq!(first.lock("z"), Ok(Owned::New));
+    let result = locks.run(9, |transaction| {
+        count += 1;
+        transaction.lock("x")?;
+        assert_eq!(other.ask("x", |told| assert_eq!(told, Ok(()))), Ok(None));
+        assert_eq!(transaction.lock("y"), Err(LockError::Deadlock));
+        transaction.unlock("x")?;
+        transaction.lock_for("z", SHORT)
+    });
+    assert_eq!((result, count), (Err(LockError::TimedOut), 1));
 }
 
 #[test]

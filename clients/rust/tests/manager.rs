@@ -1,5 +1,5 @@
 //! A manager that answers at once.
-use pashkure::{Config, Key, Lock, LockManager, OpenError, Owned, Refusal, Status, Wake};
+use pashkure::{Config, Key, Lock, LockManager, OpenError, Owned, Refusal, Status, Wait, Wake};
 
 fn opened() -> LockManager {
     LockManager::open(&Config::new(3, 3).name_bytes(8).seed(1)).unwrap()
@@ -21,8 +21,7 @@ fn an_end_names_those_that_it_wakes() {
     let mut manager = opened();
     let (one, two) = (owner(&mut manager, "x"), manager.begin().unwrap());
     assert_eq!(manager.lock(two, b"x"), Ok(Lock::Waits));
-    let number = number_of(&manager, b"x");
-    assert!(number.is_some());
+    let number = number_of(&manager, b"x").unwrap();
     assert_eq!(manager.unlock(one, b"x").unwrap().collect::<Vec<_>>(), [Wake { key: two, number }]);
     assert_eq!(manager.view().owner(b"x"), Some(two));
     assert_eq!(manager.commit(one).unwrap().count(), 0);
@@ -36,35 +35,48 @@ fn a_wait_is_taken_back() {
     let (_one, two) = (owner(&mut manager, "x"), manager.begin().unwrap());
     assert_eq!(manager.try_lock(two, b"x"), Ok(None));
     assert_eq!(manager.lock(two, b"x"), Ok(Lock::Waits));
-    assert_eq!(manager.cancel(two).unwrap().unwrap().count(), 0);
+    assert_eq!(manager.cancel(two), Ok(()));
     assert_eq!(manager.view().status(two), Some(Status::Active));
-    assert_eq!(manager.cancel(two).unwrap_err(), Refusal::NotWaiting);
+    assert_eq!(manager.cancel(two), Err(Refusal::NotWaiting));
 }
 
 #[test]
-fn who_waits_behind_a_victim_ends_later() {
+fn who_is_told_of_a_deadlock_goes_on() {
     let mut manager = opened();
     let (one, two) = (owner(&mut manager, "x"), owner(&mut manager, "y"));
     assert_eq!(manager.lock(one, b"y"), Ok(Lock::Waits));
     assert_eq!(manager.lock(two, b"x"), Ok(Lock::Deadlock));
-    let cycle = manager.view().cycle(two);
-    assert_eq!(cycle.iter().map(|wait| (wait.key, wait.name.as_slice())).collect::<Vec<_>>(), [(two, &b"x"[..]), (one, b"y")]);
-    assert_eq!(manager.view().cycle(one), []); // it is no victim
-    assert!(manager.cancel(one).unwrap().is_none());
-    assert!(manager.abort(one).unwrap().is_none());
-    assert!(matches!(manager.view().status(one), Some(Status::Waiting { aborting: true, .. })));
-    let number = number_of(&manager, b"y");
-    let woken: Vec<Wake> = manager.abort(two).unwrap().unwrap().collect();
-    assert_eq!(woken, [Wake { key: one, number }, Wake { key: one, number: None }]); // it was given y, and ended then
-    assert_eq!((manager.view().transactions().count(), manager.view().locks().count()), (0, 0));
+    let waits = manager.view().waits_from(manager.view().owner(b"x").unwrap());
+    assert_eq!(waits, [Wait { key: one, name: b"y".to_vec(), holder: two }]);
+    assert_eq!(manager.view().status(two), Some(Status::Active));
+    assert_eq!(manager.view().waits_from(two), []);
+    assert_eq!(manager.lock(two, b"z"), Ok(Lock::Owned(Owned::New)));
+    assert_eq!(manager.lock(two, b"x"), Ok(Lock::Deadlock)); // again, since it gave nothing back
+    let number = number_of(&manager, b"y").unwrap();
+    assert_eq!(manager.unlock(two, b"y").unwrap().collect::<Vec<_>>(), [Wake { key: one, number }]);
+    assert_eq!(manager.lock(two, b"x"), Ok(Lock::Waits));
+    assert_eq!(manager.commit(one).unwrap().count(), 1);
+    assert_eq!(manager.commit(two).unwrap().count(), 0);
     let totals = manager.view().totals();
-    assert_eq!((totals.begun, totals.committed, totals.aborted, totals.deadlocks), (2, 0, 2, 1));
+    assert_eq!((totals.begun, totals.committed, totals.aborted, totals.deadlocks), (2, 2, 0, 2));
+}
+
+#[test]
+fn who_waits_is_aborted_at_once() {
+    let mut manager = opened();
+    let (one, two, three) = (owner(&mut manager, "x"), owner(&mut manager, "y"), manager.begin().unwrap());
+    assert_eq!(manager.lock(three, b"x"), Ok(Lock::Waits));
+    assert_eq!(manager.lock(one, b"y"), Ok(Lock::Waits));
+    assert_eq!(manager.lock(two, b"x"), Ok(Lock::Deadlock));
+    let number = number_of(&manager, b"x").unwrap();
+    assert_eq!(manager.abort(one).unwrap().collect::<Vec<_>>(), [Wake { key: three, number }]);
+    assert_eq!((manager.view().status(one), manager.view().status(three)), (None, Some(Status::Active)));
 }
 
 #[test]
 fn wrong_use_is_an_error() {
     let mut manager = opened();
-    let (one, two) = (owner(&mut manager, "x"), owner(&mut manager, "y"));
+    let (one, _two) = (owner(&mut manager, "x"), owner(&mut manager, "y"));
     let three = owner(&mut manager, "z");
     assert_eq!(manager.begin(), Err(Refusal::TransactionsFull));
     assert_eq!(manager.lock(one, b""), Err(Refusal::NameEmpty));
@@ -73,8 +85,7 @@ fn wrong_use_is_an_error() {
     assert_eq!(manager.unlock(one, b"y").unwrap_err(), Refusal::NotOwner);
     assert_eq!(manager.lock(one, b"y"), Ok(Lock::Waits));
     assert_eq!(manager.lock(one, b"z"), Err(Refusal::Waiting));
-    assert_eq!(manager.lock(two, b"x"), Ok(Lock::Deadlock));
-    assert_eq!(manager.commit(two).unwrap_err(), Refusal::MustAbort);
+    assert_eq!(manager.commit(one).unwrap_err(), Refusal::Waiting);
     drop(manager.commit(three).unwrap());
     assert_eq!(manager.begin().unwrap().slot, three.slot);
     assert_eq!(manager.view().status(three), None);

@@ -1,7 +1,7 @@
 //! How a transaction goes on from a request for a lock: it works on, it sleeps, or it has been rolled back.
-ghost use Rattle.std.specs.Prelude.{◌≡◌, OnOk};
-ghost use Rattle.mm_rules.specs.Victims.{IsOnCycle};
-ghost use Rattle.mm_settled.specs.Calls.{OthersKeepVerdicts};
+ghost use Rattle.std.specs.Prelude.{◌≡◌, ℕ, Some, Ok};
+ghost use Rattle.mm_rules.specs.TableState.{owner_of};
+ghost use Rattle.mm_rules.specs.TakeBack.{NobodyWaitsForItself};
 
 use mm_settled::{Key, Locked, Refusal, SettledTable};
 
@@ -12,34 +12,40 @@ pub enum Next {
     WorksOn,
     /// It waits for the holder, and sleeps until a call of another one lists it in `granted`.
     Sleeps { holder: Key },
-    /// It closed a cycle of waits, and was aborted. Its caller undoes its work, and may begin it anew.
+    /// Its wait would have closed a cycle of waits, and it has ended. Its caller undoes its work, and may begin it anew.
     RolledBack,
 }
 
-/// Asks for a resource, and handles each of the three answers: a transaction that closed a cycle of waits is aborted at once. Whom that
+/// Asks for a resource, and handles each of the three answers: a transaction whose wait would close a cycle of waits is ended at once. Whom that
 /// gives its locks, `table.granted()` lists; the caller wakes them.
 ///
-/// Whatever comes of it, the transaction is on no cycle of waits afterwards, and no other one has a new verdict.
+/// Whatever comes of it, nobody waits for itself afterwards, directly or over others; and who was rolled back owns nothing.
 ///
-/// Refused as `SettledTable::acquire` is. If the abort is refused, as `CountsExhausted` or `LabelsExhausted`, the transaction still waits
-/// under its verdict.
+/// Refused as `SettledTable::acquire` is. If the end is refused, as `CountsExhausted` or `LabelsExhausted`, the transaction is active and owns
+/// what it owned.
 pub fn lock_or_roll_back(table: &mut SettledTable, key: Key, resource: u32) -> Result<Next, Refusal>
-    ensures free { OnOk result (¬ IsOnCycle table.new.table key.process) }
-    ensures others { OthersKeepVerdicts table.old.table table.new.table key.process }
+    ensures apart { NobodyWaitsForItself table.new.table }
+    ensures rolled_back { result ≡ Ok Next.RolledBack → (r : ℕ) → ¬ (owner_of table.new.table r ≡ Some key) }
 {
-    match table.acquire(key, resource)? {
+    let answer = table.acquire(key, resource);
+    table.is_at_rest();
+    match answer? {
         Locked::Granted => Ok(Next::WorksOn),
         Locked::Waits { holder } => Ok(Next::Sleeps { holder }),
         Locked::Deadlock { .. } => roll_back(table, key),
     }
 }
 
-/// Aborts the transaction.
+/// Ends the transaction.
 fn roll_back(table: &mut SettledTable, key: Key) -> Result<Next, Refusal>
-    ensures free { OnOk result (¬ IsOnCycle table.new.table key.process) }
-    ensures others { OthersKeepVerdicts table.old.table table.new.table key.process }
+    ensures apart { NobodyWaitsForItself table.new.table }
+    ensures rolled_back { result ≡ Ok Next.RolledBack → (r : ℕ) → ¬ (owner_of table.new.table r ≡ Some key) }
 {
     table.is_at_rest();
-    table.abort(key)?;
-    Ok(Next::RolledBack)
+    let answer = table.finish(key);
+    table.is_at_rest();
+    match answer {
+        Ok(()) => Ok(Next::RolledBack),
+        Err(refusal) => Err(refusal),
+    }
 }

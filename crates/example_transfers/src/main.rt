@@ -1,7 +1,7 @@
-//! Two transfers between two accounts, in opposite directions, that meet: each owns one account and asks for the other. The one that closes
-//! the cycle of waits is rolled back, the other one is granted its account and commits, and the first one tries again.
+//! Two transfers between two accounts, in opposite directions, that meet: each owns one account and asks for the other. The one whose wait would
+//! close a cycle of waits is rolled back, the other one is granted its account and commits, and the first one tries again.
 //!
-//! - `lock`: a request for an account: a transaction whose request closes a cycle of waits is rolled back.
+//! - `lock`: a request for an account: a transaction whose wait would close a cycle of waits is rolled back.
 #![tactic(auto)]
 
 mod lock;
@@ -82,7 +82,7 @@ fn ask(rt: &impl Print, locks: &mut LockManager, key: Key, account: &str) -> io:
             "{key} waits for {account}, which {holder} owns"
         ),
         Ok(Next::RolledBack) => println!(rt;
-            "{key} closed a cycle of waits by {account}, and is rolled back"
+            "{key} would close a cycle of waits by {account}, and is rolled back"
         ),
         Err(refusal) => println!(rt; "{key} is refused {account}: {refusal}"),
     }

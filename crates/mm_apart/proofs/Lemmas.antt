@@ -1,8 +1,6 @@
 -- what events leave of the slots of others
 pub mod Slots
 pub mod Events
--- the ends of those whose abort is due
-pub mod Chain
 -- what a hand-over leaves of another transaction
 pub mod Left
 -- each request

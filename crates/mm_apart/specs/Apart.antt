@@ -1,34 +1,20 @@
 -- What a request of the lock service leaves of the transactions that it does not name.
-use Rattle.std.specs.Prelude.{◌≡◌, ◌⊎◌, ℕ, true, false, List}
+use Rattle.std.specs.Prelude.{◌≡◌, ◌⊎◌, ℕ, true, List}
 use Rattle.mm_arena.specs.declared.key.Key.{Key}
-use Rattle.mm_lists.specs.Members.{Among}
-use Rattle.mm_bit_set.specs.BitSet.{has}
-use Rattle.mm_rules.specs.TableState.{is_live, has_verdict}
+use Rattle.mm_rules.specs.TableState.{is_live}
 use Rattle.mm_manager.specs.LockState.{LockState, Owns, Waits, IsLawful}
 use Rattle.mm_service.specs.Text.{Replies}
 use Rattle.mm_service.specs.declared.effect.Effect.{Effect}
 use Rattle.mm_service.specs.declared.line.Request.{Request}
 use Rattle.mm_service.specs.declared.line.Request.TheVariants as requests
 
--- t is live still, it owns what it owned and nothing new but the name that it waited for, its wait is the same or ended by that grant, it has a verdict exactly if it had one, and its abort is due exactly if it was
+-- t is live still, it owns what it owned and nothing new but the name that it waited for, and its wait is the same or ended by that grant
 pub record IsLeft (old : LockState) (t : Key) (new : LockState) : Type 0 where
   pub live : is_live new.table t ≡ true
   pub owns : (name : List ℕ) → Owns old t name → Owns new t name
   pub gains : (name : List ℕ) → Owns new t name → Owns old t name ⊎ Waits old t name
   pub waited : (name : List ℕ) → Waits old t name → Waits new t name ⊎ Owns new t name
   pub waits : (name : List ℕ) → Waits new t name → Waits old t name
-  pub verdict : has_verdict new.table t.process ≡ has_verdict old.table t.process
-  pub due : has new.due t.process ≡ has old.due t.process
-
--- the abort of t was due, its wait ended, and t was aborted by that
-pub record IsEndedAsDue (old : LockState) (t : Key) (new : LockState) : Type 0 where
-  pub due : has old.due t.process ≡ true
-  pub told : Among t new.aborted
-  pub ended : is_live new.table t ≡ false
-
--- the one or the other
-abbrev pub IsApart : LockState → Key → LockState → Type 0
-IsApart old t new = IsLeft old t new ⊎ IsEndedAsDue old t new
 
 -- the request is of this transaction
 abbrev pub IsOfKey : Request → Key → Type 0
@@ -43,4 +29,4 @@ IsOfKey requests.Totals t = ⊥
 -- so each request leaves each live transaction that it does not name
 abbrev pub OthersAreLeft : Type 0
 OthersAreLeft = (request : Request) (name reply : List ℕ) (effect : Effect) (old new : LockState) → Replies request name old reply effect new → IsLawful old → IsLawful new
-    → (t : Key) → is_live old.table t ≡ true → ¬ IsOfKey request t → IsApart old t new
+    → (t : Key) → is_live old.table t ≡ true → ¬ IsOfKey request t → IsLeft old t new

@@ -3,7 +3,7 @@
 
 ghost use Rattle.mm_apart.specs.Apart.{OthersAreLeft};
 
-/// A request leaves each transaction that it does not name, or ends it if its own abort was due.
+/// A request leaves each live transaction that it does not name.
 pub fn others_are_left()
     ensures { OthersAreLeft }
 {}

@@ -130,22 +130,22 @@ ended.
 Requests and their replies:
   begin          begun K: a new transaction
   lock K NAME    granted; held, if K owns it; waits H, if H owns it; or
-                 deadlock H: the same, and K closed a cycle of waits
+                 deadlock H NAME ..: K would have closed a cycle, and does not
+                 wait. H owns it and waits for NAME, which the next key owns,
+                 and so on, up to a name of K; after 16 keys stands '..'
   try K NAME     granted, held, or busy H: it never waits
   unlock K NAME  unlocked: the longest waiter owns the name now
   commit K       committed: K hands over all that it owns, and ends
-  abort K        aborted: the same; or later: as soon as its wait ends
-  cancel K       cancelled: K waits no longer; or carried: not now
+  abort K        aborted: the same, also if K waits
+  cancel K       cancelled: K waits no longer
   owner NAME     owner K, or free
-  status K       active, waiting NAME H or deadlock NAME H; 'aborting' after
-                 it if the abort of K is due
+  status K       active, or waiting NAME H
   holds K        holds NAME ..: the names that K owns
   graph          graph N, and N lines '* K NAME H': the waits
   totals         totals BEGUN COMMITTED ABORTED DEADLOCKS
 
 Waits that a request ended:
   * granted K NAME   K owns the name now
-  * aborted K        the abort of K was due, and K has ended
 
 A key K or H is process.generation. A NAME is 1 to --name-bytes bytes, without
 spaces and control characters. A line that is no request has the reply
@@ -160,30 +160,29 @@ Ranges:
 
 With --connections N each line is 'C REQUEST' of a connection C below N, or
 '- C', by which C hangs up; each reply begins with the number of the connection
-that it is for. A connection may use only the transactions that it began, at
-most --each at a time. Each line has one reply, also a blank line and a comment:
-'malformed'. Connection 0 is the operator's: it begins nothing, and may ask for
-status, holds, cycle and abort of any K; it alone may ask for graph, list and
-counts, which are 'refused operator' to others. Further requests:
+that it is for. After '* more C' some transactions of C are left, and '- C' has
+to come again; after '- C' none is. A connection may use only the transactions
+that it began, at most --each at a time. Each line has one reply, also a blank
+line and a comment: 'malformed'. Connection 0 is the operator's: it begins
+nothing, and may ask for status, holds and abort of any K; it alone may ask for
+graph, list and counts: they are 'refused operator' to others. Further requests:
   begin NAME ..   begun K if K owns all, or begun K with one of the three below
   lock K NAME ..  for two names or more: granted if K owns all; or
-                  waits I H, deadlock I H or refused I WORD, by the place I
-                  of the name, from 0: K owns those before it, and did not ask
-                  for those after it
-  cycle K         cycle K NAME K NAME ..: the cycle that K closed, each with the
-                  name that it waits for, at most 16, then '..'
+                  waits I H, deadlock I H NAME .. or refused I WORD, by the
+                  place I of the name, from 0: K owns those before it, and did
+                  not ask for those after it
   fence K NAME    fence E F: the epoch, and the count of events, of a name of K
   hello           hello 2 E TRANSACTIONS NAMES BYTES: the protocol, the epoch or
                   0, and --transactions, --names and --name-bytes
   list            list N, and N lines '* K C STATE': each live transaction, its
-                  connection or -, and its status
+                  connection, and its status
   counts          counts BEGUN COMMITTED ABORTED DEADLOCKS WAITS WITHDRAWN
                   EVENTS LABELS-LEFT COUNTS-LEFT
-The operator gets '* deadlock K NAME K NAME ..' for each cycle that is closed.
+The operator gets '* deadlock K NAME H NAME ..' for each deadlock: K asked for
+the first name. Who began K gets '* aborted K' if the operator aborts it.
 
 A refused request changes nothing and has the reply 'refused' with a word:
   no-transaction     no live transaction has this key
-  must-abort         K is in a deadlock, and may only abort
   waiting            K waits
   not-waiting        K does not wait
   name-too-long      the name has more bytes than --name-bytes says
@@ -193,7 +192,6 @@ A refused request changes nothing and has the reply 'refused' with a word:
   labels-full        there may be no label left for one more wait
   counts-full        the count of events is at its limit
   operator           the operator alone may ask for this, or it may not
-  not-deadlocked     K is not in a deadlock
   no-epoch           the service has no --epoch
   too-many           K owns more than 1024 names
 

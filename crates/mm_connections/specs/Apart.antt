@@ -1,24 +1,23 @@
 -- Connections are apart: what one of them says leaves the transactions of the others.
 use Rattle.std.specs.Prelude.{◌≡◌, ◌⊎◌, ℕ, Bool, true, false, List}
 use Rattle.mm_arena.specs.declared.key.Key.{Key}
-use Rattle.mm_bit_set.specs.BitSet.{has}
 use Rattle.mm_lines.specs.Text.{Text}
 use Rattle.mm_lists.specs.Members.{Among}
 use Rattle.mm_tagged_lists.specs.TaggedLists.{Listing}
 use Rattle.mm_rules.specs.TableState.{is_live}
 use Rattle.mm_apart.specs.Apart.{IsLeft}
-use Rattle.mm_connections.specs.Begun.{connection_of, IsOf}
+use Rattle.mm_connections.specs.Begun.{connection_of, has_any, IsOf, has_first, open_list}
+use Rattle.mm_connections.specs.Counts.{count_at}
 use Rattle.mm_connections.specs.Line.{said_of}
 use Rattle.mm_connections.specs.Hub.{Hub, IsLawfulHub}
 use Rattle.mm_connections.specs.Text.{HangsUp, Answers}
 use Rattle.mm_connections.specs.declared.line.Said.{Said}
 use Rattle.mm_connections.specs.declared.line.Said.TheVariants as said
 
--- t is left (`IsLeft`: it is live, owns what it owned, and its wait is the same or ended by a grant) and is whose it was; or its abort was due, and it has ended
-abbrev pub StaysApart : Hub → Key → Hub → Type 0
-StaysApart old t new =
-    (IsLeft old.manager t new.manager × (connection_of new.begun t ≡ connection_of old.begun t))
-    ⊎ ((has old.manager.due t.process ≡ true) × (is_live new.manager.table t ≡ false))
+-- t is left (`IsLeft`: it is live, owns what it owned, and its wait is the same or ended by a grant), and is whose it was
+pub record StaysApart (old : Hub) (t : Key) (new : Hub) : Type 0 where
+  pub left : IsLeft old.manager t new.manager
+  pub owner : connection_of new.begun t ≡ connection_of old.begun t
 
 -- this is said by the connection that began t, or asked by the operator
 abbrev pub MayTouch : Listing → Said → Key → Type 0
@@ -36,20 +35,26 @@ LinesAreApart = (line out : List ℕ) (malformed : ℕ) (old new : Hub) → Answ
 abbrev pub NoneTouches : Hub → List (List ℕ) → Key → Type 0
 NoneTouches h lines t = (line : List ℕ) → Among line lines → ¬ MayTouch h.begun (said_of h.options.connections line).said t
 
--- after them t is left, and is whose it was; or its abort was due before
-abbrev pub RunLeaves : Hub → Key → Hub → Type 0
-RunLeaves old t new = (IsLeft old.manager t new.manager × (connection_of new.begun t ≡ connection_of old.begun t)) ⊎ (has old.manager.due t.process ≡ true)
-
 -- so any lines of other connections leave each live transaction, however many they are; of a run that ended early, those that were answered
 abbrev pub RunsAreApart : Type 0
 RunsAreApart = (whole : Bool) (lines : List (List ℕ)) (out : List ℕ) (malformed : ℕ) (old new : Hub) → Text Answers whole old lines out malformed new
-    → (t : Key) → is_live old.manager.table t ≡ true → NoneTouches old lines t → RunLeaves old t new
+    → (t : Key) → is_live old.manager.table t ≡ true → NoneTouches old lines t → StaysApart old t new
 
--- after a hang-up each transaction of the connection has ended, or ends as soon as its wait does
-abbrev pub HangUpEndsAll : Type 0
-HangUpEndsAll = (c : ℕ) (old new : Hub) (out : List ℕ) → HangsUp c old out new → IsLawfulHub old → (t : Key) → IsOf old.begun c t
-    → (is_live new.manager.table t ≡ false) ⊎ (has new.manager.due t.process ≡ true)
+-- after a part of a hang-up each transaction of the connection has ended, or is the connection's still
+abbrev pub HangUpEnds : Type 0
+HangUpEnds = (c : ℕ) (old new : Hub) (out : List ℕ) → HangsUp c old out new → IsLawfulHub old → (t : Key) → IsOf old.begun c t
+    → (is_live new.manager.table t ≡ false) ⊎ IsOf new.begun c t
 
--- and none is the connection's any more: so no event is told to it until it begins one
+-- a part of a hang-up after which a transaction of the connection is left that was not set aside, and may wait, ended none
+abbrev pub HangUpEndsLast : Type 0
+HangUpEndsLast = (c : ℕ) (old new : Hub) (out : List ℕ) → HangsUp c old out new → has_first new.begun (open_list c) ≡ true
+    → (t : Key) → is_live old.manager.table t ≡ true → is_live new.manager.table t ≡ true
+
+-- nothing is left of connection c: no transaction is its own, and its count is 0
+pub record HasNone (h : Hub) (c : ℕ) : Type 0 where
+  pub none : (t : Key) → ¬ IsOf h.begun c t
+  pub count : count_at h.counts c ≡ 0
+
+-- after the last part, which answers that c is over, nothing is left of it
 abbrev pub HangUpLeavesNone : Type 0
-HangUpLeavesNone = (c : ℕ) (old new : Hub) (out : List ℕ) → HangsUp c old out new → IsLawfulHub old → (t : Key) → ¬ IsOf new.begun c t
+HangUpLeavesNone = (c : ℕ) (old new : Hub) (out : List ℕ) (did : HangsUp c old out new) → has_any did.last.begun c ≡ false → HasNone new c

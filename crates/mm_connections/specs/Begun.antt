@@ -1,21 +1,47 @@
--- Which connection began each transaction. The list of a connection has the processes of which it began the last transaction, each under the generation of that one.
-use Rattle.std.specs.Prelude.{◌≡◌, ℕ, Option, Some, None, option_and_then, nat_eq, if◌then◌else◌}
+-- Which connection began each transaction. A connection has two lists of the processes of which it began the last transaction, each under the generation of that one: one of those
+-- that are set aside, since it hangs up, and one of the others.
+use Rattle.std.specs.Prelude.{◌≡◌, ℕ, ◌+◌, ◌*◌, ◌/◌, Bool, ◌||◌, Option, Some, None, option_and_then, is_some, nat_eq, if◌then◌else◌}
 use Rattle.mm_arena.specs.declared.key.Key.{Key}
+use Rattle.mm_lists.specs.Members.{head}
 use Rattle.mm_tagged_lists.specs.declared.spot.Spot.{Spot}
-use Rattle.mm_tagged_lists.specs.TaggedLists.{Listing, spot_at, given, freed}
+use Rattle.mm_tagged_lists.specs.TaggedLists.{Listing, list_at, spot_at, given, freed}
+
+-- those of connection c that are not set aside
+abbrev pub open_list : ℕ → ℕ
+open_list c = c * 2
+
+-- and those that are
+abbrev pub aside_list : ℕ → ℕ
+aside_list c = c * 2 + 1
 
 -- the connection of a spot, if its tag is this generation
 abbrev pub connection_in : Option Spot → ℕ → Option ℕ
-connection_in spot generation = option_and_then (λ (o : Spot). if nat_eq o.tag generation then Some o.list else None) spot
+connection_in spot generation = option_and_then (λ (o : Spot). if nat_eq o.tag generation then Some (o.list / 2) else None) spot
 
--- the connection that began the transaction, if it has not hung up since
+-- the connection that began the transaction, if that was not dropped since
 abbrev pub connection_of : Listing → Key → Option ℕ
 connection_of begun k = connection_in (spot_at begun k.process) k.generation
 
--- the connection began the transaction, and has not hung up since
+-- the connection began the transaction, and it was not dropped since
 abbrev pub IsOf : Listing → ℕ → Key → Type 0
 IsOf begun c k = connection_of begun k ≡ Some c
 
+-- with the transaction first in this list
+abbrev pub listed : Listing → ℕ → Key → Listing
+listed begun n k = given (freed begun k.process) (record { list = n; tag = k.generation }) k.process
+
 -- with the transaction as one of connection c
 abbrev pub begun_by : Listing → ℕ → Key → Listing
-begun_by begun c k = given (freed begun k.process) (record { list = c; tag = k.generation }) k.process
+begun_by begun c k = listed begun (open_list c) k
+
+-- with the transaction of connection c set aside
+abbrev pub set_aside : Listing → ℕ → Key → Listing
+set_aside begun c k = listed begun (aside_list c) k
+
+-- a process is in this list
+abbrev pub has_first : Listing → ℕ → Bool
+has_first begun n = is_some (head (list_at begun n))
+
+-- a process is in one of the lists of connection c
+abbrev pub has_any : Listing → ℕ → Bool
+has_any begun c = has_first begun (open_list c) || has_first begun (aside_list c)

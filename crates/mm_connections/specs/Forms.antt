@@ -19,7 +19,6 @@ abbrev pub further_words : List (List ℕ × FurtherForm)
 further_words =
     (codes "begin", forms.Begin)
     ∷ (codes "lock", forms.Lock)
-    ∷ (codes "cycle", forms.Cycle)
     ∷ (codes "fence", forms.Fence)
     ∷ (codes "hello", forms.Hello)
     ∷ (codes "list", forms.List)
@@ -48,11 +47,6 @@ abbrev pub lock_all : List ℕ → List (List ℕ) → Option AskedByClient
 lock_all line [] = None
 lock_all line (k ∷ words) = key_of k >>= λ key. further (requests.LockAll key) line (are_names words)
 
--- K, and what is left
-abbrev pub cycle : List (List ℕ) → Option AskedByClient
-cycle [] = None
-cycle (k ∷ words) = key_of k >>= λ key. read (reads.Cycle key) [] words
-
 abbrev pub fence_name : ReadRequest → List (List ℕ) → Option AskedByClient
 fence_name request [] = None
 fence_name request (name ∷ words) = if is_name name then read request name words else None
@@ -66,7 +60,6 @@ fence (k ∷ words) = key_of k >>= λ key. fence_name (reads.Fence key) words
 abbrev pub further_by : FurtherForm → List ℕ → List (List ℕ) → Option AskedByClient
 further_by forms.Begin line words = further requests.Begin line (are_names words)
 further_by forms.Lock line words = lock_all line words
-further_by forms.Cycle line words = cycle words
 further_by forms.Fence line words = fence words
 further_by forms.Hello line words = read reads.Hello [] words
 further_by forms.List line words = read reads.List [] words

@@ -7,7 +7,7 @@ use Rattle.mm_connections.specs.declared.options.ConnectionOptions.{ConnectionOp
 pub record Hub : Type 0 where
   pub manager : LockState
   pub begun : Listing  -- which connection began each transaction
-  pub counts : List ℕ  -- by connection: how many of its transactions are live and not due
+  pub counts : List ℕ  -- by connection: how many of its transactions are live
   pub options : ConnectionOptions
 
 -- what holds of any hub that a service can hold

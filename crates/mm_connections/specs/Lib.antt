@@ -14,8 +14,6 @@ pub mod Line
 pub mod Status
 -- a request of several names
 pub mod Names
--- a cycle of waits
-pub mod Cycle
 -- what a contract sees, and to which connection a line goes
 pub mod Hub
 -- what is read

@@ -5,9 +5,10 @@ use Rattle.mm_arena.specs.Key.{key_text}
 use Rattle.mm_manager.specs.LockState.{LockState, IsLawful}
 use Rattle.mm_manager.specs.Made.{Locked}
 use Rattle.mm_manager.specs.declared.refusal.Refusal.{Refusal}
-use Rattle.mm_manager.specs.declared.refusal.Refusal.TheVariants.{NoTransaction, MustAbort, Waiting}
+use Rattle.mm_manager.specs.declared.refusal.Refusal.TheVariants.{NoTransaction, Waiting}
 use Rattle.mm_manager.specs.declared.reply.Lock.{Lock}
 use Rattle.mm_manager.specs.declared.reply.Lock.TheVariants as lock
+use Rattle.mm_service.specs.Cycle.{cycle_text}
 use Rattle.mm_service.specs.Reply.{begun_text, refusal_word}
 use Rattle.mm_service.specs.declared.effect.Effect.{Effect}
 use Rattle.mm_service.specs.declared.effect.Effect.TheVariants as effects
@@ -36,29 +37,29 @@ LocksNames place k (name ∷ names) old stop new =
 -- the refusal is of the transaction, whatever the name is
 abbrev pub is_of_transaction : Refusal → Bool
 is_of_transaction NoTransaction = true
-is_of_transaction MustAbort = true
 is_of_transaction Waiting = true
 is_of_transaction _ = false
 
-abbrev pub reason_text : ℕ → StopReason → List ℕ
-reason_text place (reasons.Waits h) = (codes "waits " ++ decimal place) ++ codes " " ++ key_text h
-reason_text place (reasons.Deadlock h) = (codes "deadlock " ++ decimal place) ++ codes " " ++ key_text h
-reason_text place (reasons.Refused refusal) = codes "refused " ++ (if is_of_transaction refusal then [] else decimal place ++ codes " ") ++ refusal_word refusal
+-- of a deadlock the cycle is told that k would have closed
+abbrev pub reason_text : LockState → Key → ℕ → StopReason → List ℕ
+reason_text m k place (reasons.Waits h) = (codes "waits " ++ decimal place) ++ codes " " ++ key_text h
+reason_text m k place (reasons.Deadlock h) = (codes "deadlock " ++ decimal place) ++ cycle_text m k h
+reason_text m k place (reasons.Refused refusal) = codes "refused " ++ (if is_of_transaction refusal then [] else decimal place ++ codes " ") ++ refusal_word refusal
 
-abbrev pub stop_text : Option Stop → List ℕ
-stop_text None = codes "granted"
-stop_text (Some stop) = reason_text stop.place stop.reason
+abbrev pub stop_text : LockState → Key → Option Stop → List ℕ
+stop_text m k None = codes "granted"
+stop_text m k (Some stop) = reason_text m k stop.place stop.reason
 
-abbrev pub begun_with_text : Key → Option Stop → List ℕ
-begun_with_text k None = begun_text k
-begun_with_text k (Some stop) = begun_text k ++ codes " " ++ reason_text stop.place stop.reason
+abbrev pub begun_with_text : LockState → Key → Option Stop → List ℕ
+begun_with_text m k None = begun_text k
+begun_with_text m k (Some stop) = (begun_text k ++ codes " ") ++ reason_text m k stop.place stop.reason
 
 -- ---- what it came to
 
-abbrev pub reason_effect : Key → StopReason → Effect
-reason_effect k (reasons.Deadlock h) = effects.Deadlock k
-reason_effect k _ = effects.Nothing
+abbrev pub reason_effect : Key → ℕ → StopReason → Effect
+reason_effect k place (reasons.Deadlock h) = effects.Deadlock k h place
+reason_effect k place _ = effects.Nothing
 
 abbrev pub stop_effect : Key → Option Stop → Effect
 stop_effect k None = effects.Nothing
-stop_effect k (Some stop) = reason_effect k stop.reason
+stop_effect k (Some stop) = reason_effect k stop.place stop.reason

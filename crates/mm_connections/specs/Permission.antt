@@ -15,7 +15,7 @@ use Rattle.mm_connections.specs.declared.request.ReadRequest.TheVariants as read
 use Rattle.mm_connections.specs.declared.permission.Permission.{Permission}
 use Rattle.mm_connections.specs.declared.permission.Permission.TheVariants.{Make, NoTransaction, Operator}
 
--- the connection began the transaction, and has not hung up since
+-- the connection began the transaction, and it was not dropped since
 abbrev pub is_of : Listing → ℕ → Key → Bool
 is_of begun c k = option_map_or (λ d. nat_eq d c) (connection_of begun k) false
 
@@ -41,7 +41,6 @@ plain_permission begun c _ = Operator
 -- the operator reads all; others read what is theirs
 abbrev pub read_permission : Listing → ℕ → ReadRequest → Permission
 read_permission begun c (reads.Holds k) = if nat_eq c 0 then Make else of_own begun c k
-read_permission begun c (reads.Cycle k) = if nat_eq c 0 then Make else of_own begun c k
 read_permission begun c (reads.Fence k) = of_own begun c k
 read_permission begun c reads.Hello = Make
 read_permission begun c _ = if nat_eq c 0 then Make else Operator

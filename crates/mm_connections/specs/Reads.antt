@@ -13,7 +13,6 @@ use Rattle.mm_manager.specs.declared.reply.Wait.{Wait}
 use Rattle.mm_service.specs.Reply.{answer_text, edge_text, line_text, name_at, refusal_word, status_text}
 use Rattle.mm_service.specs.Text.{AreHeld, names_text}
 use Rattle.mm_connections.specs.Begun.{connection_of}
-use Rattle.mm_connections.specs.Cycle.{cycle_reply}
 use Rattle.mm_connections.specs.Hub.{Hub, to}
 use Rattle.mm_connections.specs.Status.{status_of}
 use Rattle.mm_connections.specs.declared.request.ReadRequest.{ReadRequest}
@@ -97,7 +96,6 @@ list_text c h = line_text (codes "list " ++ decimal (length (live_of h.manager.t
 -- the reply to a read by connection c, without its number in front
 abbrev pub ReadReply : ℕ → ReadRequest → List ℕ → Hub → List ℕ → Type 0
 ReadReply c (reads.Holds k) name h out = HeldText (nat_eq c 0) h.manager k out
-ReadReply c (reads.Cycle k) name h out = out ≡ line_text (cycle_reply h.manager k (status_of h.manager k))
 ReadReply c (reads.Fence k) name h out = FenceText h k name out
 ReadReply c reads.Hello name h out = out ≡ line_text (hello_text h)
 ReadReply c reads.Graph name h out = out ≡ graph_text c h.manager

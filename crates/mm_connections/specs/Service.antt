@@ -1,5 +1,5 @@
 -- What a run of a service with connections reads and writes.
-use Rattle.std.specs.Prelude.{ℕ, List, Result, replicate}
+use Rattle.std.specs.Prelude.{ℕ, ◌*◌, List, Result, replicate}
 use Rattle.mm_lines.specs.declared.fault.Fault.{Fault}
 use Rattle.mm_lines.specs.Text as texts
 use Rattle.mm_manager.specs.Opening as manager
@@ -17,7 +17,7 @@ input_limit = 18446744073709551614
 abbrev pub opening_hub : ManagerConfig → ConnectionOptions → Hub
 opening_hub config options = record {
   manager = manager.opening_state config;
-  begun = unlisted options.connections config.transactions;
+  begun = unlisted (options.connections * 2) config.transactions;
   counts = replicate options.connections 0;
   options = options;
 }

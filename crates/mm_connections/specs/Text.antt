@@ -1,30 +1,29 @@
 -- What a connection is answered. What a request does, and its reply, are those of a service without connections (mm_service): here stands who is told what.
-use Rattle.std.specs.Prelude.{◌≡◌, ℕ, Bool, true, false, List, [], ◌∷◌, ◌++◌, drop, Option, Some, None, Result, Ok, Err, codes, decimal, nat_eq, nat_le, if◌then◌else◌, slice_set}
+use Rattle.std.specs.Prelude.{◌≡◌, ℕ, Bool, true, false, List, [], ◌∷◌, ◌++◌, drop, take, Option, Some, None, Result, Ok, Err, codes, decimal, nat_eq, nat_le, if◌then◌else◌, slice_index_or, slice_set}
 use Rattle.mm_arena.specs.declared.key.Key.{Key}
-use Rattle.mm_tagged_lists.specs.declared.spot.Spot.{Spot}
-use Rattle.mm_tagged_lists.specs.TaggedLists.{spot_at, list_at, freed}
+use Rattle.mm_arena.specs.Key.{key_text}
+use Rattle.mm_tagged_lists.specs.TaggedLists.{Listing, spot_at, list_at, freed}
 use Rattle.mm_lines.specs.Words.{words_of}
 use Rattle.mm_settled.specs.declared.reply.Grant.{Grant}
 use Rattle.mm_manager.specs.LockState.{LockState, IsLawful}
-use Rattle.mm_manager.specs.Made.{Aborted, Begun}
+use Rattle.mm_manager.specs.Made.{Aborted, Begun, Cancelled}
 use Rattle.mm_manager.specs.Permit.{counts_left}
 use Rattle.mm_manager.specs.declared.refusal.Refusal.{Refusal}
 use Rattle.mm_manager.specs.declared.refusal.Refusal.TheVariants.{NoTransaction, CountsFull, TransactionsFull}
-use Rattle.mm_manager.specs.declared.reply.Abort as abort
-use Rattle.mm_service.specs.Reply.{line_text, answer_text, begun_text, refusal_word, aborted_text}
+use Rattle.mm_service.specs.Cycle.{pair_text, pairs_text}
+use Rattle.mm_service.specs.Reply.{line_text, answer_text, begun_text, refusal_word}
 use Rattle.mm_service.specs.Text.{Replies, told_line}
 use Rattle.mm_service.specs.declared.effect.Effect.{Effect}
 use Rattle.mm_service.specs.declared.effect.Effect.TheVariants as effects
 use Rattle.mm_service.specs.declared.line.Request.{Request}
-use Rattle.mm_connections.specs.Begun.{connection_of, begun_by}
-use Rattle.mm_connections.specs.Counts.{count_at, fewer, one_more}
-use Rattle.mm_connections.specs.Cycle.{cycle_text}
+use Rattle.mm_connections.specs.Begun.{aside_list, begun_by, connection_of, has_any, has_first, open_list, set_aside}
+use Rattle.mm_connections.specs.Counts.{after_end, count_at, counted, one_more}
 use Rattle.mm_connections.specs.Hub.{Hub, IsLawfulHub, to, to_any}
 use Rattle.mm_connections.specs.Line.{said_of}
 use Rattle.mm_connections.specs.Names.{LocksNames, begun_with_text, stop_effect, stop_text}
 use Rattle.mm_connections.specs.Permission.{permission_of}
 use Rattle.mm_connections.specs.Reads.{ReadReply}
-use Rattle.mm_connections.specs.Status.{is_aborting, status_of}
+use Rattle.mm_connections.specs.declared.hang_up.TheConstants.{HANG_UP_PART}
 use Rattle.mm_connections.specs.declared.line.Said.{Said}
 use Rattle.mm_connections.specs.declared.line.Said.TheVariants as said
 use Rattle.mm_connections.specs.declared.names.Stop.{Stop}
@@ -49,46 +48,41 @@ told_lines but h (g ∷ gs) = to_any (receiver but (connection_of h.begun g.key)
 abbrev pub told_text : Option ℕ → Hub → List ℕ
 told_text but h = told_lines but h h.manager.granted
 
--- a cycle that was closed is told to the operator
-abbrev pub deadlock_text : LockState → Key → List ℕ
-deadlock_text m k = to 0 (line_text (codes "* deadlock" ++ cycle_text m k))
+-- the name at this place among those that a request is about
+abbrev pub asked_name : ClientRequest → List ℕ → ℕ → List ℕ
+asked_name asked.Begin line place = slice_index_or (drop 1 (words_of line)) place []
+asked_name (asked.LockAll k) line place = slice_index_or (drop 2 (words_of line)) place []
+asked_name _ name place = name
 
--- what a request caused beside its reply
-abbrev pub events_text : Hub → Effect → List ℕ
-events_text h effects.EndedWaits = told_text None h
-events_text h (effects.Ended k) = told_text None h
-events_text h (effects.Deadlock k) = deadlock_text h.manager k
-events_text h (effects.Aborted k) = to_any (connection_of h.begun k) (line_text (aborted_text k)) ++ told_text None h
-events_text h _ = []
+-- the cycle that k would have closed by a wait for the name, which h owns, is told to the operator: k first, and then the others, 16 in all at most
+abbrev pub deadlock_text : LockState → Key → List ℕ → Key → List ℕ
+deadlock_text m k name h = to 0 (line_text (codes "* deadlock" ++ pair_text k name ++ pairs_text 15 m k h))
 
--- who is ended by the operator is told of it
-abbrev pub effect_for : ℕ → Effect → Effect
-effect_for c (effects.Ended k) = if nat_eq c 0 then effects.Aborted k else effects.Ended k
-effect_for c effect = effect
+abbrev pub aborted_text : Key → List ℕ
+aborted_text k = codes "* aborted " ++ key_text k
 
--- ---- how many transactions are live
+-- the connection to which a line about the end of a transaction of this connection goes: who is ended by the operator is told of it
+abbrev pub end_receiver : ℕ → Option ℕ → Option ℕ
+end_receiver c owner = if nat_eq c 0 then owner else None
 
--- k counts no longer, if its abort was not due before
-abbrev pub released : Hub → Key → List ℕ
-released h k = if is_aborting (status_of h.manager k) then h.counts else fewer h.counts (connection_of h.begun k)
-
--- the counts after a request of this hub that came to this
-abbrev pub counts_after : Hub → Effect → List ℕ
-counts_after h (effects.Ended k) = released h k
-counts_after h (effects.Due k) = released h k
-counts_after h _ = h.counts
+-- what a request of connection c about this caused beside its reply
+abbrev pub events_text : ℕ → ClientRequest → List ℕ → Hub → Effect → List ℕ
+events_text c request about h effects.EndedWaits = told_text None h
+events_text c request about h (effects.Ended k) = to_any (end_receiver c (connection_of h.begun k)) (line_text (aborted_text k)) ++ told_text None h
+events_text c request about h (effects.Deadlock k holder place) = deadlock_text h.manager k (asked_name request about place) holder
+events_text c request about h effects.Nothing = []
 
 -- ---- requests
 
 -- the manager answers it as it does without connections
 pub record Asks (request : Request) (name : List ℕ) (old : Hub) (reply : List ℕ) (effect : Effect) (new : Hub) : Type 0 where
   pub replies : Replies request name old.manager reply effect new.manager
-  pub rest : new ≡ record old { manager = new.manager; counts = counts_after old effect }
+  pub rest : new ≡ record old { manager = new.manager; counts = counted old.begun old.counts effect }
 
 -- a transaction asks for these names
 abbrev pub AsksAll : Key → List (List ℕ) → Hub → List ℕ → Effect → Hub → Type 0
 AsksAll k names old reply effect new =
-    (stop : Option Stop) × LocksNames 0 k names old.manager stop new.manager × (reply ≡ line_text (stop_text stop)) × (effect ≡ stop_effect k stop) × (new ≡ record old { manager = new.manager })
+    (stop : Option Stop) × LocksNames 0 k names old.manager stop new.manager × (reply ≡ line_text (stop_text new.manager k stop)) × (effect ≡ stop_effect k stop) × (new ≡ record old { manager = new.manager })
 
 -- the connection has as many transactions as it may have
 abbrev pub is_full : Hub → ℕ → Bool
@@ -106,7 +100,7 @@ with_begun h c k = record h { begun = begun_by h.begun c k; counts = one_more h.
 abbrev pub BeginsAs : Result Key Refusal → ℕ → List (List ℕ) → Hub → List ℕ → Effect → Hub → Type 0
 BeginsAs (Err refusal) c names mid reply effect new = (reply ≡ line_text (answer_text begun_text (Err refusal))) × (effect ≡ effects.Nothing) × (new ≡ mid)
 BeginsAs (Ok k) c names mid reply effect new =
-    (stop : Option Stop) × LocksNames 0 k names mid.manager stop new.manager × (reply ≡ line_text (begun_with_text k stop)) × (effect ≡ stop_effect k stop)
+    (stop : Option Stop) × LocksNames 0 k names mid.manager stop new.manager × (reply ≡ line_text (begun_with_text new.manager k stop)) × (effect ≡ stop_effect k stop)
     × (new ≡ record (with_begun mid c k) { manager = new.manager })
 
 -- by whether the connection has as many as it may have
@@ -128,7 +122,7 @@ pub record Makes (c : ℕ) (request : ClientRequest) (name : List ℕ) (old : Hu
   pub effect : Effect
   pub replies : RepliesTo c request name old reply effect new
   pub lawful : IsLawfulHub new
-  pub text : out ≡ to c reply ++ events_text new (effect_for c effect)
+  pub text : out ≡ to c reply ++ events_text c request name new effect
 
 -- a request by what becomes of it
 abbrev pub ServesBy : Permission → ℕ → ClientRequest → List ℕ → Hub → List ℕ → Hub → Type 0
@@ -141,14 +135,28 @@ Serves c request name old out new = ServesBy (permission_of old.begun c request)
 
 -- ---- a connection hangs up
 
--- the last transaction of the slot is nobody's from now on, and is aborted, or its abort is due; it may have ended before
-pub record Drops (c p : ℕ) (old : Hub) (out : List ℕ) (new : Hub) : Type 0 where
-  pub kept : Spot
-  pub was : spot_at old.begun p ≡ Some kept
-  pub answer : Result abort.Abort Refusal
-  pub did : Aborted old.manager (record { process = p; generation = kept.tag }) answer new.manager
+-- the last transaction of the slot, which connection c began, takes back its wait, if it waits, and is set aside; it may have ended before
+pub record SetsAside (c p : ℕ) (old new : Hub) : Type 0 where
+  pub generation : ℕ
+  pub was : spot_at old.begun p ≡ Some (record { list = open_list c; tag = generation })
+  pub answer : Result (Unit {0}) Refusal
+  pub did : Cancelled old.manager (record { process = p; generation = generation }) answer new.manager
   pub lawful : IsLawful new.manager
-  pub rest : new ≡ record old { manager = new.manager; begun = freed old.begun p }
+  pub rest : new ≡ record old { manager = new.manager; begun = set_aside old.begun c (record { process = p; generation = generation }) }
+
+-- those of these slots, one after the other
+abbrev pub SetsAllAside : ℕ → List ℕ → Hub → Hub → Type 0
+SetsAllAside c [] old new = new ≡ old
+SetsAllAside c (p ∷ ps) old new = (mid : Hub) × SetsAside c p old mid × SetsAllAside c ps mid new
+
+-- the last transaction of the slot is nobody's from now on, and is aborted; it may have ended before
+pub record Drops (c p : ℕ) (old : Hub) (out : List ℕ) (new : Hub) : Type 0 where
+  pub generation : ℕ
+  pub was : spot_at old.begun p ≡ Some (record { list = aside_list c; tag = generation })
+  pub answer : Result (Unit {0}) Refusal
+  pub did : Aborted old.manager (record { process = p; generation = generation }) answer new.manager
+  pub lawful : IsLawful new.manager
+  pub rest : new ≡ record old { manager = new.manager; begun = freed old.begun p; counts = after_end answer old.counts c }
   pub text : out ≡ told_text (Some c) new
 
 -- those of these slots, one after the other
@@ -156,13 +164,33 @@ abbrev pub DropsAll : ℕ → List ℕ → Hub → List ℕ → Hub → Type 0
 DropsAll c [] old out new = (out ≡ []) × (new ≡ old)
 DropsAll c (p ∷ ps) old out new = (mid : Hub) × (first : List ℕ) × (rest : List ℕ) × Drops c p old first mid × DropsAll c ps mid rest new × (out ≡ first ++ rest)
 
--- all of connection c, the one begun last first; others are told what that caused, and a line says that c is over
+-- the slots whose transactions a line sets aside: a part of those that are left to be, the one begun last first
+abbrev pub to_set_aside : Listing → ℕ → List ℕ
+to_set_aside begun c = take HANG_UP_PART (list_at begun (open_list c))
+
+-- and those whose transactions it ends, after that: none while one is left to be set aside
+abbrev pub to_end : Listing → ℕ → List ℕ
+to_end begun c = if has_first begun (open_list c) then [] else take HANG_UP_PART (list_at begun (aside_list c))
+
+-- if connection c has none left, its count is 0
+abbrev pub closed : ℕ → Hub → Hub
+closed c h = if has_any h.begun c then h else record h { counts = slice_set h.counts c 0 }
+
+-- whether c has to hang up again, or is over
+abbrev pub hang_up_text : Bool → ℕ → List ℕ
+hang_up_text true c = line_text (codes "* more " ++ decimal c)
+hang_up_text false c = line_text (codes "- " ++ decimal c)
+
+-- a part of the hang-up of connection c: a part of its transactions take back their waits, and a part of them end once all have done so. Others are told what that caused
 pub record HangsUp (c : ℕ) (old : Hub) (out : List ℕ) (new : Hub) : Type 0 where
+  pub aside : Hub
+  pub sets : SetsAllAside c (to_set_aside old.begun c) old aside
   pub told : List ℕ
   pub last : Hub
-  pub drops : DropsAll c (list_at old.begun c) old told last
-  pub rest : new ≡ record last { counts = slice_set last.counts c 0 }
-  pub text : out ≡ told ++ line_text (codes "- " ++ decimal c)
+  pub drops : DropsAll c (to_end aside.begun c) aside told last
+  pub rest : new ≡ closed c last
+  pub lawful : IsLawfulHub new
+  pub text : out ≡ told ++ hang_up_text (has_any last.begun c) c
 
 -- ---- lines
 

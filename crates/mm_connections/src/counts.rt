@@ -1,11 +1,12 @@
 //! How many transactions each connection has.
 ghost use Rattle.std.specs.Prelude.{◌≡◌, replicate, IfOk, slice_set};
-ghost use Rattle.mm_connections.specs.Counts.{count_at, one_fewer};
+ghost use Rattle.mm_connections.specs.Counts.{after_end, count_at, one_fewer};
 
+use mm_manager::Refusal;
 use std::alloc::{AllocError, Global};
 use std::marker::Model;
 
-/// By connection how many of its transactions are live and not due. All of the memory is taken when it is made.
+/// By connection how many of its transactions are live. All of the memory is taken when it is made.
 #[derive(Drop)]
 pub struct Counts {
     counts: Vec<u32>,
@@ -44,6 +45,16 @@ impl Counts {
     {
         let count = self.of(connection);
         self.set(connection, count.saturating_sub(1));
+    }
+
+    /// Counts one fewer, if the end of a transaction was not refused.
+    pub fn count_end(&mut self, connection: u32, answer: &Result<(), Refusal>)
+        ensures { self.new ≡ after_end answer.now self.old connection }
+    {
+        match answer {
+            Ok(()) => self.remove(connection),
+            Err(_) => {}
+        }
     }
 
     /// Sets the count of a connection.

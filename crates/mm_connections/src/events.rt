@@ -1,20 +1,21 @@
 //! Tells connections what a request caused.
-ghost use Rattle.std.specs.Prelude.{◌≡◌, ◌≤◌, ◌+◌, ◌++◌, ℕ, List, OnOk, IsOkUnless};
+ghost use Rattle.std.specs.Prelude.{◌≡◌, ◌≤◌, ◌+◌, ◌++◌, ℕ, List, length, OnOk, IsOkUnless};
 ghost use Rattle.arrayvec.specs.ArrayVec.{array_vec_len};
-ghost use Rattle.mm_lines.specs.Output.{Writes};
-ghost use Rattle.mm_service.specs.Reply.{aborted_text, line_text};
+ghost use Rattle.mm_lines.specs.Output.{Prints, Writes};
+ghost use Rattle.mm_service.specs.Reply.{line_text};
 ghost use Rattle.mm_service.specs.Text.{told_line};
 ghost use Rattle.mm_connections.specs.Begun.{connection_of};
 ghost use Rattle.mm_connections.specs.Hub.{to_any};
-ghost use Rattle.mm_connections.specs.Text.{deadlock_text, effect_for, events_text, receiver, told_text};
+ghost use Rattle.mm_connections.specs.Text.{aborted_text, deadlock_text, end_receiver, events_text, receiver, told_text};
 
-use crate::cycle::write_cycle;
+use crate::names::asked_name;
 use crate::permission::OPERATOR;
+use crate::request::{ClientRequest, Heard};
 use crate::served::{MAX_ANSWER, ServedManager, print_to};
-use mm_lines::{Fault, OUTPUT_LEN, Output, make_room, print_text};
+use mm_lines::{Fault, OUTPUT_LEN, Output, make_room, print_key, print_text};
 use mm_manager::{Grant, Key};
-use mm_service::Effect;
-use mm_service::reply::{MAX_NAMED, name_at, print_aborted, print_granted};
+use mm_service::reply::{MAX_REPLY, end_line};
+use mm_service::{Effect, MAX_PAIRS, MAX_REQUEST, Walk, print_pair, print_told, write_cycle};
 use std::io::Write;
 
 impl ServedManager {
@@ -23,33 +24,38 @@ impl ServedManager {
     /// Writes what a request caused for others.
     pub(crate) fn write_events<W: Write>(
         &self,
+        heard: Heard<'_, ClientRequest>,
         effect: Effect,
         output: &mut Output,
         writer: &mut W,
     ) -> Result<(), Fault>
-        ensures written { (lost : List ℕ) × Writes (W.contents writer.old) (W.contents writer.new) (output.old.items ++ events_text (hub_of self.now) effect) lost
+        requires { length heard.name.now ≤ MAX_REQUEST }
+        ensures written { (lost : List ℕ) × Writes (W.contents writer.old) (W.contents writer.new) (output.old.items ++ events_text heard.entry.connection heard.entry.request heard.entry.name.now (hub_of self.now) effect) lost
             × OnOk result (lost ≡ output.new.items) }
         ensures fault { IsOkUnless result Fault.Write }
     {
         match effect {
-            Effect::Nothing | Effect::Begun(_) | Effect::Due(_) => Ok(()),
-            Effect::EndedWaits | Effect::Ended(_) => self.write_told(None, output, writer),
-            Effect::Deadlock(key) => self.write_deadlock(key, output, writer),
-            Effect::Aborted(key) => {
+            Effect::Nothing => Ok(()),
+            Effect::EndedWaits => self.write_told(None, output, writer),
+            Effect::Ended(key) => {
                 make_room(output, MAX_ANSWER, writer)?;
-                self.print_own_abort(key, output);
+                self.print_end(heard.connection, key, output);
                 self.write_told(None, output, writer)
+            }
+            Effect::Deadlock { key, holder, place } => {
+                let name = asked_name(heard.request, heard.name, place);
+                self.write_deadlock(key, name, holder, output, writer)
             }
         }
     }
 
-    /// Prints that this transaction was aborted, to its connection.
-    fn print_own_abort(&self, key: Key, output: &mut Output)
+    /// Prints that this transaction was aborted, to its connection, if the request was the operator's.
+    fn print_end(&self, connection: u32, key: Key, output: &mut Output)
         requires { array_vec_len output.old + MAX_ANSWER ≤ OUTPUT_LEN }
-        ensures { output.new.items ≡ output.old.items ++ to_any (connection_of self.now.begun key) (line_text (aborted_text key)) }
+        ensures { output.new.items ≡ output.old.items ++ to_any (end_receiver connection (connection_of self.now.begun key)) (line_text (aborted_text key)) }
     {
-        if let Some(connection) = self.begun.connection(key) {
-            print_to(output, connection);
+        if let Some(owner) = end_receiver(connection, self.begun.connection(key)) {
+            print_to(output, owner);
             print_aborted(output, key);
         }
     }
@@ -67,61 +73,63 @@ impl ServedManager {
     {
         for grant in self.manager.granted() {
             make_room(output, MAX_ANSWER, writer)?;
-            self.print_told(but, *grant, output);
+            self.print_grant(but, *grant, output);
         }
         Ok(())
     }
 
     /// Prints whose wait a grant ended, if anybody is to be told.
-    fn print_told(&self, but: Option<u32>, grant: Grant, output: &mut Output)
+    fn print_grant(&self, but: Option<u32>, grant: Grant, output: &mut Output)
         requires { array_vec_len output.old + MAX_ANSWER ≤ OUTPUT_LEN }
         ensures { output.new.items ≡ output.old.items ++ to_any (receiver but (connection_of self.now.begun grant.key)) (told_line self.now.manager grant) }
     {
         if let Some(connection) = receiver(but, self.begun.connection(grant.key)) {
             print_to(output, connection);
-            self.print_grant(grant, output);
+            print_told(&self.manager, output, grant);
         }
     }
 
-    /// Prints the line itself.
-    fn print_grant(&self, grant: Grant, output: &mut Output)
-        requires { array_vec_len output.old + MAX_NAMED ≤ OUTPUT_LEN }
-        ensures { output.new.items ≡ output.old.items ++ told_line self.now.manager grant }
-    {
-        match self.manager.status(grant.key) {
-            Ok(_) => {
-                print_granted(output, grant.key, name_at(&self.manager, grant.resource));
-            }
-            Err(_) => print_aborted(output, grant.key),
-        }
-    }
-
-    /// Writes a cycle that was closed, to the operator.
+    /// Writes the cycle that a transaction would have closed by a wait for this name, to the operator.
     fn write_deadlock<W: Write>(
         &self,
         key: Key,
+        name: &[u8],
+        holder: Key,
         output: &mut Output,
         writer: &mut W,
     ) -> Result<(), Fault>
-        ensures written { (lost : List ℕ) × Writes (W.contents writer.old) (W.contents writer.new) (output.old.items ++ deadlock_text self.now.manager key) lost
+        requires { length name.now ≤ MAX_REQUEST }
+        ensures written { (lost : List ℕ) × Writes (W.contents writer.old) (W.contents writer.new) (output.old.items ++ deadlock_text self.now.manager key name.now holder) lost
             × OnOk result (lost ≡ output.new.items) }
         ensures fault { IsOkUnless result Fault.Write }
     {
-        make_room(output, MAX_ANSWER, writer)?;
+        make_room(output, MAX_ANSWER + 10, writer)?;
         print_to(output, OPERATOR);
         print_text(output, b"* deadlock");
-        write_cycle(&self.manager, key, output, writer)
+        print_pair(output, key, name);
+        let walk = Walk {
+            requester: key,
+            at: holder,
+            left: MAX_PAIRS - 1,
+        };
+        write_cycle(&self.manager, walk, output, writer)
     }
 }
 
-/// Returns what a request of a connection came to: who is ended by the operator is told of it.
-pub(crate) fn effect_for(connection: u32, effect: Effect) -> Effect
-    ensures { result ≡ effect_for connection effect }
+/// A line that says who was aborted.
+fn print_aborted(output: &mut Output, key: Key)
+    requires { array_vec_len output.old + MAX_REPLY ≤ OUTPUT_LEN }
+    ensures { Prints output.old.items (line_text (aborted_text key)) MAX_REPLY output.new.items }
 {
-    match effect {
-        Effect::Ended(key) if connection == OPERATOR => Effect::Aborted(key),
-        effect => effect,
-    }
+    print_key(output, b"* aborted ", key);
+    end_line(output);
+}
+
+/// Returns who is told of the end of a transaction of this connection: its connection, if the operator ended it.
+fn end_receiver(connection: u32, owner: Option<u32>) -> Option<u32>
+    ensures { result ≡ end_receiver connection owner }
+{
+    if connection == OPERATOR { owner } else { None }
 }
 
 /// Returns who is told of a transaction of this connection: nobody, if it is the one that hangs up.

@@ -19,8 +19,6 @@ pub enum FurtherForm {
     Begin,
     /// `K NAME NAME ..`: names that a transaction asks for.
     Lock,
-    /// `K`: the cycle of a transaction is read.
-    Cycle,
     /// `K NAME`: the fence of a name is read.
     Fence,
     /// Nothing: the protocol and the numbers of the opening are read.
@@ -32,10 +30,9 @@ pub enum FurtherForm {
 }
 
 /// Each word that asks so, with what follows it.
-const FORMS: [(&str, FurtherForm); 7] = [
+const FORMS: [(&str, FurtherForm); 6] = [
     ("begin", FurtherForm::Begin),
     ("lock", FurtherForm::Lock),
-    ("cycle", FurtherForm::Cycle),
     ("fence", FurtherForm::Fence),
     ("hello", FurtherForm::Hello),
     ("list", FurtherForm::List),
@@ -65,10 +62,6 @@ fn further_by<'a>(
         FurtherForm::Lock => {
             let key = arguments.next_key()?;
             further(ClientRequest::LockAll(key), line, are_names(arguments))
-        }
-        FurtherForm::Cycle => {
-            let key = arguments.next_key()?;
-            read(ReadRequest::Cycle(key), &[], arguments)
         }
         FurtherForm::Fence => {
             let key = arguments.next_key()?;

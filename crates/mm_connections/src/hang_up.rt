@@ -1,28 +1,34 @@
-//! A connection hangs up.
-ghost use Rattle.std.specs.Prelude.{◌≡◌, ◌<◌, ◌≤◌, ◌++◌, ℕ, List, length, OnOk, IsOkUnless};
+//! A connection hangs up, a part of it by each line that says so.
+ghost use Rattle.std.specs.Prelude.{◌≡◌, ◌<◌, ◌≤◌, ◌+◌, ◌++◌, ℕ, List, Some, Err, length, take, MatchResult, OnOk, IsOkUnless};
+ghost use Rattle.arrayvec.specs.ArrayVec.{array_vec_len};
 ghost use Rattle.mm_lines.specs.Output.{Writes};
 ghost use Rattle.mm_tagged_lists.specs.TaggedLists.{list_at};
+ghost use Rattle.mm_connections.specs.Begun.{aside_list, has_any};
 ghost use Rattle.mm_connections.specs.Hub.{IsLawfulHub};
-ghost use Rattle.mm_connections.specs.Text.{DropsAll, HangsUp};
+ghost use Rattle.mm_connections.specs.Text.{DropsAll, HangsUp, SetsAllAside, closed, hang_up_text, to_end, to_set_aside, told_text};
 
 use crate::served::{MAX_ANSWER, ServedManager};
-use mm_lines::{Fault, Output, make_room, print_number};
+use mm_lines::{Fault, OUTPUT_LEN, Output, make_room, print_number};
 use mm_service::reply::end_line;
 use std::io::Write;
+
+/// How many transactions of a connection take back their waits by one line, and how many end.
+pub const HANG_UP_PART: usize = 256;
 
 impl ServedManager {
     ghost use Rattle.mm_connections.specs.private.Served.{hub_of};
 
-    /// A connection hangs up: each of its transactions ends, or ends as soon as its wait does. It costs what those own.
+    /// A connection hangs up, or goes on to do so. First its transactions take back their waits, so that none is in a queue when others end,
+    /// and then they end, at most `HANG_UP_PART` of each by one call. It costs what those own. The answer says whether some are left.
     ///
-    /// After a fault all of them are still ended, and what there is to tell of them is lost.
+    /// After a fault as many end, and what there is to tell of them is lost.
     pub(crate) fn hang_up<W: Write>(
         &mut self,
         connection: u32,
         output: &mut Output,
         writer: &mut W,
     ) -> Result<(), Fault>
-        requires connection { connection < length self.old.begun.lists }
+        requires connection { aside_list connection < length self.old.begun.lists }
         ensures hangs_up { (text : List ℕ) × (lost : List ℕ) × IsLawfulHub (hub_of self.old) × HangsUp connection (hub_of self.old) text (hub_of self.new)
             × Writes (W.contents writer.old) (W.contents writer.new) (output.old.items ++ text) lost × OnOk result (lost ≡ output.new.items) }
         ensures fault { IsOkUnless result Fault.Write }
@@ -33,24 +39,68 @@ impl ServedManager {
     {
         self.manager.keeps_laws();
         self.begun.keeps_laws();
-        let outcome = self.drop_all(connection, output, writer);
-        self.counts.set(connection, 0);
+        self.set_part_aside(connection);
+        let outcome = self.end_part(connection, output, writer);
+        let has_more = self.close(connection);
+        self.manager.keeps_laws();
+        self.begun.keeps_laws();
         outcome?;
         make_room(output, MAX_ANSWER, writer)?;
-        print_number(output, b"- ", u64::from(connection));
-        end_line(output);
+        print_part(output, connection, has_more);
         Ok(())
     }
 
-    /// Ends all transactions of a connection, the one begun last first, and writes what there is to tell of that.
-    fn drop_all<W: Write>(
+    /// Takes back the waits of transactions of a connection, the one begun last first, and sets those transactions aside: a part of them.
+    fn set_part_aside(&mut self, connection: u32)
+        requires { aside_list connection < length self.old.begun.lists }
+        ensures sets { SetsAllAside connection (to_set_aside self.old.begun connection) (hub_of self.old) (hub_of self.new) }
+        ensures lists { length self.new.begun.lists ≡ length self.old.begun.lists }
+        ensures spots { length self.new.begun.spots ≡ length self.old.begun.spots }
+        ensures config { self.new.manager.table.config ≡ self.old.manager.table.config }
+        ensures options { self.new.options ≡ self.old.options }
+    {
+        self.begun.keeps_laws();
+        'aside: for _ in 0..HANG_UP_PART {
+            let Some(key) = self.begun.set_first_aside(connection) else {
+                return;
+            };
+            let _answer = self.manager.cancel(key);
+            self.manager.keeps_laws();
+            self.begun.keeps_laws();
+        }
+    }
+
+    /// Ends transactions of a connection, once all of them are set aside: a part of them. Writes what there is to tell of that.
+    fn end_part<W: Write>(
         &mut self,
         connection: u32,
         output: &mut Output,
         writer: &mut W,
     ) -> Result<(), Fault>
-        requires connection { connection < length self.old.begun.lists }
-        ensures drops { (told : List ℕ) × (lost : List ℕ) × DropsAll connection (list_at self.old.begun connection) (hub_of self.old) told (hub_of self.new)
+        requires connection { aside_list connection < length self.old.begun.lists }
+        ensures drops { (told : List ℕ) × (lost : List ℕ) × DropsAll connection (to_end self.old.begun connection) (hub_of self.old) told (hub_of self.new)
+            × Writes (W.contents writer.old) (W.contents writer.new) (output.old.items ++ told) lost × OnOk result (lost ≡ output.new.items) }
+        ensures fault { IsOkUnless result Fault.Write }
+        ensures lists { length self.new.begun.lists ≡ length self.old.begun.lists }
+        ensures spots { length self.new.begun.spots ≡ length self.old.begun.spots }
+        ensures config { self.new.manager.table.config ≡ self.old.manager.table.config }
+        ensures options { self.new.options ≡ self.old.options }
+    {
+        if self.begun.has_open(connection) {
+            return Ok(());
+        }
+        self.drop_part(connection, output, writer)
+    }
+
+    /// Ends transactions of a connection that are set aside: a part of them. Writes what there is to tell of that.
+    fn drop_part<W: Write>(
+        &mut self,
+        connection: u32,
+        output: &mut Output,
+        writer: &mut W,
+    ) -> Result<(), Fault>
+        requires connection { aside_list connection < length self.old.begun.lists }
+        ensures drops { (told : List ℕ) × (lost : List ℕ) × DropsAll connection (take HANG_UP_PART (list_at self.old.begun (aside_list connection))) (hub_of self.old) told (hub_of self.new)
             × Writes (W.contents writer.old) (W.contents writer.new) (output.old.items ++ told) lost × OnOk result (lost ≡ output.new.items) }
         ensures fault { IsOkUnless result Fault.Write }
         ensures lists { length self.new.begun.lists ≡ length self.old.begun.lists }
@@ -60,15 +110,66 @@ impl ServedManager {
     {
         let mut written = Ok(());
         self.begun.keeps_laws();
-        'key: while let Some(key) = self.begun.take_first(connection) {
-            let _answer = self.manager.abort(key);
+        'drop: for _ in 0..HANG_UP_PART {
+            let Some(key) = self.begun.take_first_aside(connection) else {
+                return written;
+            };
+            let answer = self.manager.abort(key);
+            self.counts.count_end(connection, &answer);
             self.manager.keeps_laws();
             self.begun.keeps_laws();
-            written = match written {
-                Ok(()) => self.write_told(Some(connection), output, writer),
-                Err(fault) => Err(fault),
-            };
+            written = self.write_told_after(written, connection, output, writer);
         }
         written
     }
+
+    /// Writes whose waits the last call ended, but to this connection, if what came before was written.
+    fn write_told_after<W: Write>(
+        &self,
+        before: Result<(), Fault>,
+        connection: u32,
+        output: &mut Output,
+        writer: &mut W,
+    ) -> Result<(), Fault>
+        requires { IsOkUnless before Fault.Write }
+        ensures told { MatchResult before
+            (λ _. (lost : List ℕ) × Writes (W.contents writer.old) (W.contents writer.new) (output.old.items ++ told_text (Some connection) (hub_of self.now)) lost × OnOk result (lost ≡ output.new.items))
+            (λ fault. (W.contents writer.new ≡ W.contents writer.old) × (result ≡ Err fault)) }
+        ensures fault { IsOkUnless result Fault.Write }
+    {
+        match before {
+            Ok(()) => self.write_told(Some(connection), output, writer),
+            Err(fault) => Err(fault),
+        }
+    }
+
+    /// Returns whether transactions of a connection are left. If none is, its count is 0 from now on.
+    fn close(&mut self, connection: u32) -> bool
+        requires { aside_list connection < length self.old.begun.lists }
+        ensures more { result ≡ has_any self.old.begun connection }
+        ensures closed { hub_of self.new ≡ closed connection (hub_of self.old) }
+        ensures manager { self.new.manager ≡ self.old.manager }
+        ensures begun { self.new.begun ≡ self.old.begun }
+        ensures options { self.new.options ≡ self.old.options }
+    {
+        let has_more = self.begun.has_any(connection);
+        if !has_more {
+            self.counts.set(connection, 0);
+        }
+        has_more
+    }
+}
+
+/// Prints whether a connection has to hang up again, or is over.
+fn print_part(output: &mut Output, connection: u32, has_more: bool)
+    requires { array_vec_len output.old + MAX_ANSWER ≤ OUTPUT_LEN }
+    ensures { output.new.items ≡ output.old.items ++ hang_up_text has_more connection }
+{
+    let number = u64::from(connection);
+    if has_more {
+        print_number(output, b"* more ", number);
+    } else {
+        print_number(output, b"- ", number);
+    }
+    end_line(output);
 }

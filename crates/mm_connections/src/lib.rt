@@ -5,15 +5,14 @@
 //! - `begun`: which connection began each transaction. `counts`: how many each has.
 //! - `permission`: what a connection may ask for.
 //! - `served`: serves a connection. `make`: makes a request. `names`: a request of several names. `reads`: what a connection reads.
-//! - `events`: tells connections what a request caused. `cycle`: a cycle of waits, as it is told.
-//! - `hang_up`: a connection hangs up.
+//! - `events`: tells connections what a request caused.
+//! - `hang_up`: a connection hangs up, a part of it by a line.
 //! - `options`, `service`: `ConnectionService`, what callers open and run.
 //! - `laws`: connections are apart.
 #![tactic(auto)]
 
 mod begun;
 mod counts;
-mod cycle;
 mod events;
 mod forms;
 mod hang_up;
@@ -28,7 +27,9 @@ mod request;
 mod served;
 mod service;
 
-pub use laws::{hang_up_ends_all, hang_up_leaves_none, lines_are_apart, runs_are_apart};
+pub use laws::{
+    hang_up_ends, hang_up_ends_last, hang_up_leaves_none, lines_are_apart, runs_are_apart,
+};
 pub use mm_service::{ManagerConfig, OpenError, ServiceFault};
 pub use options::ConnectionOptions;
 pub use service::ConnectionService;

@@ -5,7 +5,7 @@
 pub struct ConnectionOptions {
     /// How many connections there are, with the operator's: they have the numbers below this one.
     pub connections: u32,
-    /// How many transactions of one connection can be live. One whose abort is due does not count.
+    /// How many transactions of one connection can be live.
     pub each: u32,
     /// The epoch of the service, if it has one. It stands in front of each fence.
     pub epoch: Option<u64>,

@@ -53,10 +53,8 @@ fn read_permission(begun: &Begun, connection: u32, request: ReadRequest) -> Perm
 {
     let is_operator = connection == OPERATOR;
     match request {
-        ReadRequest::Holds(_) | ReadRequest::Cycle(_) if is_operator => Permission::Make,
-        ReadRequest::Holds(key) | ReadRequest::Cycle(key) | ReadRequest::Fence(key) => {
-            of_own(begun, connection, key)
-        }
+        ReadRequest::Holds(_) if is_operator => Permission::Make,
+        ReadRequest::Holds(key) | ReadRequest::Fence(key) => of_own(begun, connection, key),
         ReadRequest::Hello => Permission::Make,
         ReadRequest::Graph | ReadRequest::List | ReadRequest::Counts if is_operator => {
             Permission::Make

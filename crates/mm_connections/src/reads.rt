@@ -4,17 +4,14 @@ ghost use Rattle.arrayvec.specs.ArrayVec.{array_vec_len};
 ghost use Rattle.mm_lines.specs.Output.{Prints, Writes};
 ghost use Rattle.mm_manager.specs.Reads.{live_of, waits_of};
 ghost use Rattle.mm_service.specs.Reply.{line_text};
-ghost use Rattle.mm_connections.specs.Cycle.{cycle_reply};
 ghost use Rattle.mm_connections.specs.Hub.{to};
 ghost use Rattle.mm_connections.specs.Reads.{FenceText, ReadReply, connection_text, counts_text, edge_lines, fence_by, graph_text, held_text, hello_text, list_text, live_line, live_lines};
-ghost use Rattle.mm_connections.specs.Status.{status_of};
 
-use crate::cycle::write_cycle;
 use crate::permission::OPERATOR;
 use crate::request::{Heard, ReadRequest};
 use crate::served::{MAX_ANSWER, ServedManager, print_to};
 use mm_lines::{Fault, OUTPUT_LEN, Output, make_room, print_key, print_number, print_text};
-use mm_manager::{Key, LockManager, Status};
+use mm_manager::{Key, LockManager};
 use mm_service::reply::{
     MAX_NAMED, MAX_REPLY, end_line, name_at, print_edge, print_line, print_status,
 };
@@ -53,7 +50,6 @@ impl ServedManager {
                 list_held(&self.manager, &mut self.numbers, key);
                 self.write_held(connection == OPERATOR, output, writer)
             }
-            ReadRequest::Cycle(key) => self.write_cycle_reply(key, output, writer),
             ReadRequest::Fence(key) => {
                 self.print_fence(key, heard.name, output);
                 Ok(())
@@ -88,38 +84,6 @@ impl ServedManager {
         } else {
             print_line(output, b"refused too-many");
             Ok(())
-        }
-    }
-
-    /// Writes the cycle that a transaction closed.
-    fn write_cycle_reply<W: Write>(
-        &self,
-        key: Key,
-        output: &mut Output,
-        writer: &mut W,
-    ) -> Result<(), Fault>
-        requires { array_vec_len output.old + MAX_REPLY ≤ OUTPUT_LEN }
-        ensures written { (lost : List ℕ) × Writes (W.contents writer.old) (W.contents writer.new) (output.old.items ++ line_text (cycle_reply self.now.manager key (status_of self.now.manager key))) lost
-            × OnOk result (lost ≡ output.new.items) }
-        ensures fault { IsOkUnless result Fault.Write }
-    {
-        match self.manager.status(key) {
-            Ok(Status::Deadlock { .. }) => {
-                print_text(output, b"cycle");
-                write_cycle(&self.manager, key, output, writer)
-            }
-            Ok(Status::Active) => {
-                print_line(output, b"refused not-deadlocked");
-                Ok(())
-            }
-            Ok(Status::Waiting { .. }) => {
-                print_line(output, b"refused not-deadlocked");
-                Ok(())
-            }
-            Err(_) => {
-                print_line(output, b"refused no-transaction");
-                Ok(())
-            }
         }
     }
 

@@ -24,8 +24,6 @@ pub enum ClientRequest {
 pub enum ReadRequest {
     /// The names that a transaction owns.
     Holds(Key),
-    /// The cycle of waits that a transaction closed.
-    Cycle(Key),
     /// The fence of a name that a transaction owns.
     Fence(Key),
     /// The protocol, the epoch, and the numbers of the opening.

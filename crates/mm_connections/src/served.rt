@@ -1,10 +1,10 @@
 //! Serves a connection.
-ghost use Rattle.std.specs.Prelude.{◌≡◌, ◌<◌, ◌≤◌, ◌+◌, ◌++◌, ℕ, List, length, codes, decimal, IfOk, OnOk, IsOkUnless, if◌then◌else◌};
+ghost use Rattle.std.specs.Prelude.{◌≡◌, ◌<◌, ◌≤◌, ◌+◌, ◌*◌, ◌++◌, ℕ, List, length, codes, decimal, IfOk, OnOk, IsOkUnless, if◌then◌else◌};
 ghost use Rattle.arrayvec.specs.ArrayVec.{array_vec_len};
 ghost use Rattle.mm_lines.specs.Output.{Prints, Writes};
 ghost use Rattle.mm_connections.specs.Hub.{IsLawfulHub};
 ghost use Rattle.mm_connections.specs.Text.{Answers, Serves};
-ghost use Rattle.mm_connections.specs.private.Names.{IsShort};
+ghost use Rattle.mm_connections.specs.Begun.{aside_list};
 
 use crate::begun::Begun;
 use crate::counts::Counts;
@@ -14,8 +14,8 @@ use crate::permission::{Permission, permission_of};
 use crate::request::{ClientRequest, Heard};
 use mm_lines::{Fault, OUTPUT_LEN, Output, print_number, print_text};
 use mm_manager::LockManager;
-use mm_service::Numbers;
 use mm_service::reply::{MAX_NAMED, print_line};
+use mm_service::{MAX_REQUEST, Numbers};
 use std::io::Write;
 
 /// A line to a connection has at most this many bytes, with its newline.
@@ -42,7 +42,7 @@ impl ServedManager {
         writer: &mut W,
     ) -> Result<bool, Fault>
         requires room { array_vec_len output.old + MAX_ANSWER ≤ OUTPUT_LEN }
-        requires lists { length self.old.begun.lists ≡ self.old.options.connections }
+        requires lists { length self.old.begun.lists ≡ self.old.options.connections * 2 }
         requires slots { self.old.manager.table.config.processes ≤ length self.old.begun.spots }
         ensures answered { (reply : List ℕ) × (one : ℕ) × (lost : List ℕ) × Answers (hub_of self.old) line.now reply one (hub_of self.new)
             × Writes (W.contents writer.old) (W.contents writer.new) (output.old.items ++ reply) lost
@@ -85,9 +85,9 @@ impl ServedManager {
         writer: &mut W,
     ) -> Result<(), Fault>
         requires room { array_vec_len output.old + MAX_ANSWER ≤ OUTPUT_LEN }
-        requires connection { heard.connection < length self.old.begun.lists }
+        requires connection { aside_list heard.connection < length self.old.begun.lists }
         requires slots { self.old.manager.table.config.processes ≤ length self.old.begun.spots }
-        requires short { IsShort heard.request heard.name.now }
+        requires short { length heard.name.now ≤ MAX_REQUEST }
         ensures serves { (text : List ℕ) × (lost : List ℕ) × IsLawfulHub (hub_of self.old) × Serves heard.entry.connection heard.entry.request heard.entry.name.now (hub_of self.old) text (hub_of self.new)
             × Writes (W.contents writer.old) (W.contents writer.new) (output.old.items ++ text) lost × OnOk result (lost ≡ output.new.items) }
         ensures fault { IsOkUnless result Fault.Write }

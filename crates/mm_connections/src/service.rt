@@ -24,7 +24,7 @@ pub struct ConnectionService {
 }
 
 impl Model for ConnectionService {
-    ghost use Rattle.std.specs.Prelude.{◌≡◌, ◌≤◌, length};
+    ghost use Rattle.std.specs.Prelude.{◌≡◌, ◌≤◌, ◌*◌, length};
     ghost use Rattle.mm_connections.specs.Hub.{Hub};
     ghost use Rattle.mm_connections.specs.private.Served.{hub_of};
 
@@ -32,7 +32,7 @@ impl Model for ConnectionService {
 
     ghost view = { λ it. hub_of it.served };
 
-    ghost invariant = { λ it. (length it.served.begun.lists ≡ it.served.options.connections) × (it.served.manager.table.config.processes ≤ length it.served.begun.spots) };
+    ghost invariant = { λ it. (length it.served.begun.lists ≡ it.served.options.connections * 2) × (it.served.manager.table.config.processes ≤ length it.served.begun.spots) };
 }
 
 impl ConnectionService {
@@ -40,7 +40,7 @@ impl ConnectionService {
     /// Connection 0 is the operator's.
     ///
     /// Refused as `LockManager::open` is. This is the one call that takes memory: that of the manager, 256 KiB, 16 bytes for each transaction
-    /// that can be live, and 8 for each connection.
+    /// that can be live, and 12 for each connection. It is refused as `Memory` too if there are 2,147,483,648 connections or more.
     pub fn open(
         alloc: Global,
         config: ManagerConfig,

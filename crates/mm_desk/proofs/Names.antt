@@ -1,32 +1,24 @@
 -- Which names have numbers after a call of the manager, and what that does to the counts.
 use Rattle.std.proofs.Common.{◌≡◌, ◌≢◌, ◌⊎◌, ◌↔◌, ℕ, ◌+◌, ◌-◌, ◌<◌, ◌≤◌, zero, suc, ◌∷◌, Bool, true, false, if◌then◌else◌, List, [], length, set, Option, Some, None, Result, Ok, Err, IfOk, refl, sym, ap, ◌∙◌, subst, inl, inr, arith, get_or-set_same, get_or-set_other, length-set}
 use Rattle.std.specs.Prelude.{slice_index, slice_index_or, is_some, is_err, is_ok}
-use Rattle.mm_bit_set.specs.BitSet.{has}
-use Rattle.std.proofs.lemmas.Bool.{cases_eq, cases_Bool}
+use Rattle.std.proofs.lemmas.Bool.{cases_eq}
 use Rattle.std.proofs.lemmas.Option.{same_Some, slice_get-get_or}
 use Rattle.std.proofs.lemmas.List.{same_lists}
 use Rattle.mm_arena.specs.declared.key.Key.{Key}
 use Rattle.mm_names.specs.Names.{NameTable, name_of, Interns}
 use Rattle.mm_rules.specs.TableState.{owner_of}
 use Rattle.mm_manager.specs.LockState.{LockState, Owns, IsUnowned, KeepOwned, IsLawful, untold}
-use Rattle.mm_manager.specs.Calls.{Gets, TriesName, Tries, LocksName, Requests, Unlocks, UnlocksName, EndsBy, IsEnded, LosesName, Passes, AbortsDue, TakesBack, Cancels, Begins, Commits, Aborts}
-use Rattle.mm_manager.specs.Permit.{may_cancel, may_cancel_in}
+use Rattle.mm_manager.specs.Calls.{Gets, TriesName, Tries, LocksName, Requests, Unlocks, UnlocksName, Ends, LosesName, Passes, Cancels, Begins, Commits, Aborts}
 use Rattle.mm_manager.specs.Reads.{HasStatus}
-use Rattle.mm_manager.specs.declared.refusal.Refusal.TheVariants.{NoTransaction}
 use Rattle.mm_manager.specs.declared.reply.Status.{Status}
-use Rattle.mm_manager.specs.declared.reply.Status.TheVariants as status
-use Rattle.mm_manager.specs.declared.reply.Abort as aborted
-use Rattle.mm_manager.specs.declared.reply.Abort.TheVariants as aborts
-use Rattle.mm_rules.specs.TableState.{TableState, is_live, wait_of, has_verdict}
-use Rattle.mm_rules.specs.Event.{Event, Answer, Finish, Abort as AbortEvent, allowed, decided, begin_tests}
+use Rattle.mm_rules.specs.TableState.{TableState, is_live}
+use Rattle.mm_rules.specs.Event.{allowed, decided, begin_tests}
 use Rattle.mm_rules.specs.declared.refusal.Refusal as rules
 use Rattle.mm_manager.specs.declared.config.ManagerConfig.{ManagerConfig}
 use Rattle.mm_manager.specs.Opening.{opening_state}
 use Rattle.mm_lists.proofs.Lemmas.Set.{read_replicate}
 use Rattle.std.proofs.Math.ListN.{replicate}
 use Rattle.std.proofs.lemmas.List.Sums.{sum_by-cons}
-use Rattle.mm_manager.specs.declared.reply.Cancel as cancel
-use Rattle.mm_manager.specs.declared.reply.Cancel.TheVariants as cancels
 use Rattle.mm_lists.specs.Members.{Among}
 use Rattle.mm_manager.specs.declared.refusal.Refusal.{Refusal}
 use Rattle.mm_manager.specs.declared.reply.Lock.{Lock}
@@ -35,8 +27,8 @@ use Rattle.mm_manager.specs.declared.reply.TryLock.{TryLock}
 use Rattle.mm_manager.specs.declared.reply.TryLock.TheVariants as tried
 use Rattle.mm_thin.specs.declared.spread.Spread.{Spread}
 use Rattle.mm_thin.specs.Spread.{bucket_by}
-use Rattle.mm_desk.specs.Books.{in_bucket, names_in, AreCounted, NoneDue, AreBooks}
-use Rattle.mm_desk.specs.Calls.{GrowsBy, NamesFade, OwnersStay, OthersStay, HasNoNames, IsOver, is_wait}
+use Rattle.mm_desk.specs.Books.{in_bucket, names_in, AreCounted}
+use Rattle.mm_desk.specs.Calls.{GrowsBy, NamesFade, OwnersStay, OthersStay, HasNoNames, IsOver}
 use Rattle.mm_desk.proofs.Counts.{count_more, count_less, counted_name, few}
 
 module _ (m : LockState) (lawful : IsLawful m) where
@@ -120,7 +112,7 @@ pub locked_stay : (old : LockState) (k : Key) (name : List ℕ) (answer : Result
 locked_stay old k name (Ok lock.Granted) new locks h x owns = gets_stay old k name new locks h x owns
 locked_stay old k name (Ok lock.Held) new locks h x owns = stays_told old new locks.1 h x owns
 locked_stay old k name (Ok (lock.Waits g)) new locks h x owns = (locks.0.owners h x).1 owns
-locked_stay old k name (Ok (lock.Deadlock g)) new locks h x owns = (locks.0.owners h x).1 owns
+locked_stay old k name (Ok (lock.Deadlock g)) new locks h x owns = (owns.0, ap (λ (m : LockState). name_of m.names owns.0) locks.state ∙ owns.1, ap (λ os. slice_index_or os owns.0 None) locks.same.owners ∙ owns.2)
 locked_stay old k name (Err refusal) new locks h x owns = stays_told old new locks.0 h x owns
 
 -- ---- the counts where nobody gets a name
@@ -144,7 +136,7 @@ pub locked_same : (old : LockState) (k : Key) (name : List ℕ) (answer : Result
 locked_same old k name (Ok lock.Granted) new locks step not_granted = absurd (not_granted refl)
 locked_same old k name (Ok lock.Held) new locks step not_granted = untold_names old new locks.1
 locked_same old k name (Ok (lock.Waits h)) new locks step not_granted = interned_same old.names name step.1.0 locks.0.holder.0 new.names locks.0.holder.1 step.1.1
-locked_same old k name (Ok (lock.Deadlock h)) new locks step not_granted = interned_same old.names name step.1.0 locks.0.holder.0 new.names locks.0.holder.1 step.1.1
+locked_same old k name (Ok (lock.Deadlock h)) new locks step not_granted = ap (λ (m : LockState). m.names) locks.state
 locked_same old k name (Err refusal) new locks step not_granted = untold_names old new locks.0
 
 -- a grant is of a name that nobody owned, which has a number from now on
@@ -183,10 +175,7 @@ kept_names old new kept n = kept_or_none (is_some (owner_of new.table n)) (name_
 pub fades : (old new : LockState) → KeepOwned old.names new.table new.names → NamesFade old new
 fades old new kept n x is = none_or_same (name_of old.names n) (name_of new.names n) x (kept_names old new kept n) is
 
-none_aborted : (old new : LockState) → NoneDue old → AbortsDue old new → (h : Key) → Among h new.aborted → ⊥
-none_aborted old new none due h among = (let was = (due.aborted h).0 among in let never : true ≡ false = sym was.0 ∙ none h.process in absurd (cc))
-
-module _ (old new : LockState) (lawful : IsLawful old) (lawful' : IsLawful new) (none : NoneDue old) (k : Key) (Loses : Key → List ℕ → Type 0) (kept : KeepOwned old.names new.table new.names) (passes : Passes old k Loses new) where
+module _ (old new : LockState) (lawful : IsLawful old) (lawful' : IsLawful new) (k : Key) (Loses : Key → List ℕ → Type 0) (kept : KeepOwned old.names new.table new.names) (passes : Passes old k Loses new) where
   -- a name whose owner does not lose it keeps its number
   pub stays_named : (n : ℕ) (x : List ℕ) → name_of old.names n ≡ Some x → ((h : Key) → Owns old h x → ¬ Loses h x) → name_of new.names n ≡ Some x
   stays_named n x is keeps =
@@ -195,18 +184,15 @@ module _ (old new : LockState) (lawful : IsLawful old) (lawful' : IsLawful new) 
       let same : now.0 ≡ n = lawful.names.distinct now.0 n x (fades old new kept now.0 x now.1) is in
       ap (name_of new.names) (sym same) ∙ now.1
 
-module _ (old new : LockState) (lawful : IsLawful old) (lawful' : IsLawful new) (none : NoneDue old) (k : Key) (name : List ℕ) (done : Unlocks old k name new) where
-  unlock_keeps : (h : Key) (x : List ℕ) → ((h ≡ k) × (x ≡ name) → ⊥) → ¬ LosesName k name new.aborted h x
-  unlock_keeps h x not_it loses = elim loses [ inl it ↦ not_it it | inr among ↦ none_aborted old new none done.due h among ]
-
+module _ (old new : LockState) (lawful : IsLawful old) (lawful' : IsLawful new) (k : Key) (name : List ℕ) (done : Unlocks old k name new) where
   pub unlock_stay : (h : Key) (x : List ℕ) → Owns old h x → ((h ≡ k) × (x ≡ name) → ⊥) → Owns new h x
-  unlock_stay h x owns not_it = done.passes.keeps h x owns (unlock_keeps h x not_it)
+  unlock_stay h x owns not_it = done.passes.keeps h x owns not_it
 
   other_number : (j : ℕ) → j ≢ done.number → (o : Option (List ℕ)) → name_of old.names j ≡ o → name_of new.names j ≡ o
   other_number j apart None is = elim (kept_names old new done.over.names j) [ inl same ↦ same ∙ is | inr none ↦ none ]
   other_number j apart (Some x) is =
-      stays_named old new lawful lawful' none k (LosesName k name new.aborted) done.over.names done.passes j x is
-      (λ h owns. unlock_keeps h x (λ it. apart (lawful.names.distinct j done.number name (is ∙ ap Some it.1) done.named)))
+      stays_named old new lawful lawful' k (LosesName k name) done.over.names done.passes j x is
+      (λ h owns it. apart (lawful.names.distinct j done.number name (is ∙ ap Some it.1) done.named))
 
   size : length new.names.names ≡ length old.names.names
   size = done.over.names.numbers
@@ -234,25 +220,14 @@ module _ (old new : LockState) (lawful : IsLawful old) (lawful' : IsLawful new) 
   ])
 
 -- an unlock, by its answer
-module _ (old new : LockState) (lawful : IsLawful old) (lawful' : IsLawful new) (none : NoneDue old) (k : Key) (name : List ℕ) where
+module _ (old new : LockState) (lawful : IsLawful old) (lawful' : IsLawful new) (k : Key) (name : List ℕ) where
   pub unlocked_stay : (answer : Result (Unit {0}) Refusal) → UnlocksName old k name answer new → OthersStay old k name new
-  unlocked_stay (Ok done) unlocks h x owns not_it = unlock_stay old new lawful lawful' none k name unlocks h x owns not_it
+  unlocked_stay (Ok done) unlocks h x owns not_it = unlock_stay old new lawful lawful' k name unlocks h x owns not_it
   unlocked_stay (Err refusal) unlocks h x owns not_it = stays_told old new unlocks.0 h x owns
 
   pub unlocked_fade : (answer : Result (Unit {0}) Refusal) → UnlocksName old k name answer new → NamesFade old new
   unlocked_fade (Ok done) unlocks n x is = fades old new unlocks.over.names n x is
   unlocked_fade (Err refusal) unlocks n x is = ap (λ (t : NameTable). name_of t n) (sym (untold_names old new unlocks.0)) ∙ is
-
-  -- no abort comes due
-  due_stay : AbortsDue old new → NoneDue new
-  due_stay due p = elim (cases_Bool (has new.due p)) [
-    | inl marked ↦ (let was = ((due.stay p).0 marked).0 in let never : true ≡ false = sym was ∙ none p in absurd (cc))
-    | inr clear ↦ clear
-  ]
-
-  pub unlocked_due : (answer : Result (Unit {0}) Refusal) → UnlocksName old k name answer new → NoneDue new
-  unlocked_due (Ok done) unlocks p = due_stay unlocks.due p
-  unlocked_due (Err refusal) unlocks p = ap (λ (m : LockState). has m.due p) unlocks.0 ∙ none p
 
   pub done_of : (answer : Result (Unit {0}) Refusal) → UnlocksName old k name answer new → is_err answer ≡ false → Unlocks old k name new
   done_of (Ok done) unlocks ok = unlocks
@@ -263,7 +238,7 @@ module _ (old new : LockState) (lawful : IsLawful old) (lawful' : IsLawful new) 
     was_counted done = (let some = counted_name spread old.names.names done.number name b done.named (sym bucket) in let is = counted.1 b low in omega arith)
 
     pub count_freed : (done : Unlocks old k name new) → ((h : Key) → Owns new h name → ⊥) → AreCounted spread new.names.names (set counts b (slice_index counts b - 1))
-    count_freed done free = subst (λ names. AreCounted spread names (set counts b (slice_index counts b - 1))) (sym (freed_names old new lawful lawful' none k name done free))
+    count_freed done free = subst (λ names. AreCounted spread names (set counts b (slice_index counts b - 1))) (sym (freed_names old new lawful lawful' k name done free))
         (count_less spread old.names.names counts counted done.number (inside old lawful done.number name done.named) name b bucket low done.named)
 
 -- what a read of the owner tells
@@ -279,26 +254,16 @@ somebody m name (Some h) tells some = (h, (tells h).0 refl)
 
 -- ---- a wait is taken back
 
-module _ (old new : LockState) (lawful : IsLawful old) (lawful' : IsLawful new) (none : NoneDue old) (k : Key) where
-  back_names : (due : List Bool) → TakesBack old k due new → new.names ≡ old.names
-  back_names due back = ap (λ (m : LockState). m.names) back.state
+module _ (old new : LockState) (k : Key) where
+  pub cancel_names : (answer : Result (Unit {0}) Refusal) → Cancels old k answer new → new.names ≡ old.names
+  cancel_names (Ok done) back = ap (λ (m : LockState). m.names) back.state
+  cancel_names (Err refusal) same = untold_names old new same.0
 
-  pub cancel_names : (answer : Result cancel.Cancel Refusal) → Cancels old k answer new → new.names ≡ old.names
-  cancel_names (Ok cancels.Withdrawn) done = elim done [ inl back ↦ back_names old.due back.1 | inr due ↦ (let never : true ≡ false = sym due.0 ∙ none k.process in absurd (cc)) ]
-  cancel_names (Ok cancels.Carried) done = untold_names old new done.1
-  cancel_names (Err refusal) done = untold_names old new done.0
+  pub cancel_stay : (answer : Result (Unit {0}) Refusal) → Cancels old k answer new → OwnersStay old new
+  cancel_stay (Ok done) back h x owns = (back.owners h x).1 owns
+  cancel_stay (Err refusal) same h x owns = stays_told old new same.0 h x owns
 
-  pub cancel_due : (answer : Result cancel.Cancel Refusal) → Cancels old k answer new → NoneDue new
-  cancel_due (Ok cancels.Withdrawn) done p = elim done [ inl back ↦ ap (λ (m : LockState). has m.due p) back.1.state ∙ none p | inr due ↦ (let never : true ≡ false = sym due.0 ∙ none k.process in absurd (cc)) ]
-  cancel_due (Ok cancels.Carried) done p = ap (λ (m : LockState). has m.due p) done.1 ∙ none p
-  cancel_due (Err refusal) done p = ap (λ (m : LockState). has m.due p) done.0 ∙ none p
-
-  pub cancel_stay : (answer : Result cancel.Cancel Refusal) → Cancels old k answer new → OwnersStay old new
-  cancel_stay (Ok cancels.Withdrawn) done h x owns = elim done [ inl back ↦ (back.1.owners h x).1 owns | inr due ↦ (let never : true ≡ false = sym due.0 ∙ none k.process in absurd (cc)) ]
-  cancel_stay (Ok cancels.Carried) done h x owns = stays_told old new done.1 h x owns
-  cancel_stay (Err refusal) done h x owns = stays_told old new done.0 h x owns
-
-  pub cancel_fade : (answer : Result cancel.Cancel Refusal) → Cancels old k answer new → NamesFade old new
+  pub cancel_fade : (answer : Result (Unit {0}) Refusal) → Cancels old k answer new → NamesFade old new
   cancel_fade answer done n x is = ap (λ (t : NameTable). name_of t n) (sym (cancel_names answer done)) ∙ is
 
 -- ---- a transaction starts
@@ -315,16 +280,9 @@ begun_names : (old new : LockState) (r : Result Key Refusal) → Begins old r ne
 begun_names old new (Ok key) begins = ap (λ (m : LockState). m.names) begins.2
 begun_names old new (Err refusal) begins = ap (λ (m : LockState). m.names) begins.0
 
-begun_due : (old new : LockState) (r : Result Key Refusal) → Begins old r new → new.due ≡ old.due
-begun_due old new (Ok key) begins = ap (λ (m : LockState). m.due) begins.2
-begun_due old new (Err refusal) begins = ap (λ (m : LockState). m.due) begins.0
-
 module _ (old new : LockState) (r : Result Key Refusal) (begins : Begins old r new) where
   pub begin_names : new.names ≡ old.names
   begin_names = begun_names old new r begins
-
-  pub begin_due : new.due ≡ old.due
-  begin_due = begun_due old new r begins
 
   pub begin_fade : NamesFade old new
   begin_fade n x is = ap (λ (t : NameTable). name_of t n) (sym begin_names) ∙ is
@@ -342,70 +300,38 @@ no_names spread b (x ∷ xs) none =
     let sum : names_in spread (x ∷ xs) b ≡ in_bucket spread b x + names_in spread xs b = sum_by-cons (in_bucket spread b) x xs in
     omega arith
 
-pub opened_books : (c : ManagerConfig) (spread : Spread) (m : LockState) (counts : List ℕ) → m ≡ opening_state c → counts ≡ replicate spread.buckets 0 → length counts ≡ spread.buckets → AreBooks m spread counts × HasNoNames m
+pub opened_books : (c : ManagerConfig) (spread : Spread) (m : LockState) (counts : List ℕ) → m ≡ opening_state c → counts ≡ replicate spread.buckets 0 → length counts ≡ spread.buckets → AreCounted spread m.names.names counts × HasNoNames m
 opened_books c spread m counts opened zeros size = (
-  record {
-    counted = (size, λ b below. ap (λ xs. slice_index xs b) zeros ∙ read_replicate 0 spread.buckets b ∙ sym (ap (λ (x : LockState). names_in spread x.names.names b) opened ∙ no_names spread b (replicate c.names None) (λ n. read_replicate None c.names n)));
-    none_due = λ p. ap (λ (x : LockState). has x.due p) opened ∙ read_replicate false c.transactions p;
-  },
+  (size, λ b below. ap (λ xs. slice_index xs b) zeros ∙ read_replicate 0 spread.buckets b ∙ sym (ap (λ (x : LockState). names_in spread x.names.names b) opened ∙ no_names spread b (replicate c.names None) (λ n. read_replicate None c.names n))),
   λ n name is. (let none : name_of m.names n ≡ None = ap (λ (x : LockState). name_of x.names n) opened ∙ read_replicate None c.names n in absurd (cc)),
 )
 
 -- ---- a transaction ends
 
-due_after : (old new : LockState) → NoneDue old → AbortsDue old new → NoneDue new
-due_after old new none due p = elim (cases_Bool (has new.due p)) [
-  | inl marked ↦ (let was = ((due.stay p).0 marked).0 in let never : true ≡ false = sym was ∙ none p in absurd (cc))
-  | inr clear ↦ clear
-]
-
-over_by : (e : Event) (old mid : LockState) (answer : Answer e) (k : Key) (new : LockState) → mid.names ≡ old.names → OwnersStay old mid → NoneDue mid → EndsBy e mid answer k new → IsOver old k new
-over_by e old mid answer k new names owners none ends = record {
+-- it may have taken its wait back before
+over_by : (old mid : LockState) (k : Key) (new : LockState) → mid.names ≡ old.names → OwnersStay old mid → Ends mid k new → IsOver old k new
+over_by old mid k new names owners ends = record {
   size = ends.over.names.numbers ∙ ap (λ (t : NameTable). length t.names) names;
   fade = λ n x is. ap (λ (t : NameTable). name_of t n) (sym names) ∙ fades mid new ends.over.names n x is;
-  stay = λ h x owns apart. ends.passes.keeps h x (owners h x owns) (λ loses. elim loses [ inl same ↦ apart same | inr among ↦ none_aborted mid new none ends.due h among ]);
-  due = due_after mid new none ends.due;
+  stay = λ h x owns apart. ends.passes.keeps h x (owners h x owns) apart;
 }
 
-cleared : (due : List Bool) (q : ℕ) → ((p : ℕ) → has due p ≡ false) → (p : ℕ) → has (set due q false) p ≡ false
-cleared due q none p = elim (cases_eq p q) [
-  | inl same ↦ elim (cases_lt q (length due)) [
-    | inl low ↦ ap (has (set due q false)) same ∙ get_or-set_same due q false false low
-    | inr high ↦ read_past (set due q false) p (let size = length-set due q false in omega arith)
-  ]
-  | inr apart ↦ get_or-set_other due q p false false apart ∙ none p
-] where
-  cases_lt : (a b : ℕ) → (a < b) ⊎ (b ≤ a)
-  cases_lt a b = grind arith
-
-  read_past : (xs : List Bool) (p : ℕ) → length xs ≤ p → slice_index_or xs p false ≡ false
-  read_past [] p high = refl
-  read_past (x ∷ xs) zero high = absurd (omega arith)
-  read_past (x ∷ xs) (suc p) high = read_past xs p (omega arith)
-
-pub ended_over : (old new : LockState) (k : Key) → NoneDue old → IsEnded old k new → IsOver old k new
-ended_over old new k none (inl ends) = over_by (Finish k) old old tt k new refl (λ h x owns. owns) none ends
-ended_over old new k none (inr (inl ends)) = over_by (AbortEvent k) old old tt k new refl (λ h x owns. owns) none ends
-ended_over old new k none (inr (inr back)) = over_by (Finish k) old back.0 tt k new (ap (λ (m : LockState). m.names) back.1.state) (λ h x owns. (back.1.owners h x).1 owns)
-    (λ p. ap (λ (m : LockState). has m.due p) back.1.state ∙ cleared old.due k.process none p) back.2
-
 -- a refused end ends nothing
-untold_over : (old new : LockState) (k : Key) → NoneDue old → new ≡ untold old → IsOver old k new
-untold_over old new k none same = record {
+untold_over : (old new : LockState) (k : Key) → new ≡ untold old → IsOver old k new
+untold_over old new k same = record {
   size = ap (λ (m : LockState). length m.names.names) same;
   fade = λ n x is. ap (λ (m : LockState). name_of m.names n) (sym same) ∙ is;
   stay = λ h x owns apart. stays_told old new same h x owns;
-  due = λ p. ap (λ (m : LockState). has m.due p) same ∙ none p;
 }
 
-pub commits_over : (old new : LockState) (k : Key) → NoneDue old → (answer : Result (Unit {0}) Refusal) → Commits old k answer new → IsOver old k new
-commits_over old new k none (Ok done) commits = over_by (Finish k) old old tt k new refl (λ h x owns. owns) none commits
-commits_over old new k none (Err refusal) commits = untold_over old new k none commits.0
+pub commits_over : (old new : LockState) (k : Key) (answer : Result (Unit {0}) Refusal) → Commits old k answer new → IsOver old k new
+commits_over old new k (Ok done) ends = over_by old old k new refl (λ h x owns. owns) ends
+commits_over old new k (Err refusal) same = untold_over old new k same.0
 
-pub aborts_over : (old new : LockState) (k : Key) → NoneDue old → (may_cancel old.table k ≡ Ok tt → ⊥) → (answer : Result aborted.Abort Refusal) → Aborts old k answer new → IsOver old k new
-aborts_over old new k none active (Ok aborts.Done) done = ended_over old new k none done
-aborts_over old new k none active (Ok aborts.Later) done = absurd (active done.0)
-aborts_over old new k none active (Err refusal) done = untold_over old new k none done.0
+pub aborts_over : (old new : LockState) (k : Key) (answer : Result (Unit {0}) Refusal) → Aborts old k answer new → IsOver old k new
+aborts_over old new k (Ok done) (inl ends) = over_by old old k new refl (λ h x owns. owns) ends
+aborts_over old new k (Ok done) (inr back) = over_by old back.0 k new (ap (λ (m : LockState). m.names) back.1.state) (λ h x owns. (back.1.owners h x).1 owns) back.2
+aborts_over old new k (Err refusal) same = untold_over old new k same.0
 
 module _ (old : LockState) (lawful : IsLawful old) (k : Key) (numbers : List ℕ) (owned : (n : ℕ) → Among n numbers ↔ (owner_of old.table n ≡ Some k)) where
   pub held_inside : (n : ℕ) → Among n numbers → n < length old.names.names
@@ -431,7 +357,7 @@ module _ (old : LockState) (lawful : IsLawful old) (k : Key) (numbers : List ℕ
           let there : now.0 ≡ n = lawful.names.distinct now.0 n x (over.fade now.0 x now.1) is in
           ap (name_of new.names) (sym there) ∙ now.1 ∙ sym is
 
--- ---- who waits in no deadlock, and who is live
+-- ---- who is live
 
 pub live_told : (m : LockState) (k : Key) (told : Result Status Refusal) → HasStatus m k told → is_ok told ≡ true → is_live m.table k ≡ true
 live_told m k (Ok status) has_status ok = has_status.0
@@ -440,25 +366,3 @@ live_told m k (Err refusal) has_status ok = absurd (cc)
 pub dead_told : (m : LockState) (k : Key) (told : Result Status Refusal) → HasStatus m k told → is_ok told ≡ false → is_live m.table k ≡ false
 dead_told m k (Ok status) has_status ok = absurd (cc)
 dead_told m k (Err refusal) has_status ok = has_status.0
-
-may_not : (w : Option ℕ) (v : Bool) → (w ≡ None) ⊎ (v ≡ true) → may_cancel_in w v ≡ Ok tt → ⊥
-may_not None v idle is = absurd (cc)
-may_not (Some n) true idle is = absurd (cc)
-may_not (Some n) false (inl none) is = absurd (cc)
-may_not (Some n) false (inr verdict) is = absurd (cc)
-
-may_not_live : (live : Bool) (r : Result (Unit {0}) Refusal) → (r ≡ Ok tt → ⊥) → (if live then r else Err NoTransaction) ≡ Ok tt → ⊥
-may_not_live true r not_ok is = not_ok is
-may_not_live false r not_ok is = absurd (cc)
-
-pub no_wait : (m : LockState) (k : Key) (told : Result Status Refusal) → HasStatus m k told → is_wait told ≡ false → may_cancel m.table k ≡ Ok tt → ⊥
-no_wait m k (Ok status.Active) has_status none may = may_not_live (is_live m.table k) (may_cancel_in (wait_of m.table k.process) (has_verdict m.table k.process)) (may_not (wait_of m.table k.process) (has_verdict m.table k.process) (inl has_status.1)) may
-no_wait m k (Ok (status.Waiting n h aborting)) has_status none may = absurd (cc)
-no_wait m k (Ok (status.Deadlock n h)) has_status none may = may_not_live (is_live m.table k) (may_cancel_in (wait_of m.table k.process) (has_verdict m.table k.process)) (may_not (wait_of m.table k.process) (has_verdict m.table k.process) (inr has_status.1.1)) may
-no_wait m k (Err refusal) has_status none may = (let dead : (if is_live m.table k then may_cancel_in (wait_of m.table k.process) (has_verdict m.table k.process) else Err NoTransaction) ≡ Err NoTransaction = rw has_status.0 refl in absurd (cc))
-
-pub waits_told : (m : LockState) (k : Key) (told : Result Status Refusal) → HasStatus m k told → is_wait told ≡ true → may_cancel m.table k ≡ Ok tt
-waits_told m k (Ok status.Active) has_status waits = absurd (cc)
-waits_told m k (Ok (status.Waiting n h aborting)) has_status waits = rw has_status.0 (rw has_status.1.0.waits (rw has_status.1.1 refl))
-waits_told m k (Ok (status.Deadlock n h)) has_status waits = absurd (cc)
-waits_told m k (Err refusal) has_status waits = absurd (cc)

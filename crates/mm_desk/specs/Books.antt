@@ -1,7 +1,6 @@
 -- How many names of each bucket a lock manager has.
-use Rattle.std.specs.Prelude.{◌≡◌, ◌<◌, ℕ, false, List, length, Option, Some, None, if◌then◌else◌, nat_eq, slice_index}
+use Rattle.std.specs.Prelude.{◌≡◌, ◌<◌, ℕ, List, length, Option, Some, None, if◌then◌else◌, nat_eq, slice_index}
 use Rattle.std.specs.List.{sum_by}
-use Rattle.mm_bit_set.specs.BitSet.{has}
 use Rattle.mm_manager.specs.LockState.{LockState}
 use Rattle.mm_thin.specs.declared.spread.Spread.{Spread}
 use Rattle.mm_thin.specs.Spread.{bucket_by}
@@ -23,12 +22,3 @@ AreCounted spread names counts = (length counts ≡ spread.buckets) × ((b : ℕ
 pub record BooksState : Type 0 where
   pub manager : LockState
   pub spread : Spread
-
--- no abort is due
-abbrev pub NoneDue : LockState → Type 0
-NoneDue m = (p : ℕ) → has m.due p ≡ false
-
--- the counts are exact, and no abort is due
-pub record AreBooks (m : LockState) (spread : Spread) (counts : List ℕ) : Type 0 where
-  pub counted : AreCounted spread m.names.names counts
-  pub none_due : NoneDue m

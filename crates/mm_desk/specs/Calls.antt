@@ -1,16 +1,12 @@
 -- What calls of the books and the desk do.
-use Rattle.std.specs.Prelude.{◌≡◌, ◌≢◌, ◌⊎◌, ◌↔◌, ◌/◌, ℕ, Bool, true, false, List, [], length, Option, Some, None, Result, Ok, Err, slice_get, slice_set, ◌<◌}
+use Rattle.std.specs.Prelude.{◌≡◌, ◌≢◌, ◌⊎◌, ◌↔◌, ◌/◌, ℕ, true, false, List, [], length, Option, Some, None, Result, Ok, Err, slice_get, slice_set, ◌<◌}
 use Rattle.mm_arena.specs.declared.key.Key.{Key}
 use Rattle.mm_names.specs.Names.{name_of}
 use Rattle.mm_lists.specs.Members.{Among, NoRepeat}
 use Rattle.mm_manager.specs.LockState.{LockState, Owns}
 use Rattle.mm_rules.specs.TableState.{is_live, owner_of}
-use Rattle.mm_manager.specs.Permit.{may_cancel, may_name}
+use Rattle.mm_manager.specs.Permit.{may_name}
 use Rattle.mm_manager.specs.Calls.{Aborts, Begins, Commits, LocksName, TriesName, UnlocksName, Cancels}
-use Rattle.mm_manager.specs.declared.reply.Abort.TheVariants as aborts
-use Rattle.mm_manager.specs.declared.reply.Cancel as cancel
-use Rattle.mm_manager.specs.declared.reply.Status.{Status}
-use Rattle.mm_manager.specs.declared.reply.Status.TheVariants as status
 use Rattle.mm_manager.specs.declared.reply.Lock.{Lock}
 use Rattle.mm_manager.specs.declared.reply.Lock.TheVariants as lock
 use Rattle.mm_manager.specs.declared.reply.TryLock.{TryLock}
@@ -22,10 +18,10 @@ use Rattle.mm_thin.specs.Parts.{WorkerState}
 use Rattle.mm_desk.specs.declared.reply.Asked.{Asked}
 use Rattle.mm_desk.specs.declared.reply.Asked.TheVariants.{Granted, Held, Waits, Deadlock, Again}
 use Rattle.mm_manager.specs.declared.refusal.Refusal.{Refusal}
-use Rattle.mm_manager.specs.declared.refusal.Refusal.TheVariants.{NoTransaction, NotOwner, NamesFull, Waiting}
+use Rattle.mm_manager.specs.declared.refusal.Refusal.TheVariants.{NoTransaction, NotOwner, NamesFull}
 use Rattle.mm_thin.specs.declared.views.Lent.{Lent}
 use Rattle.mm_thin.specs.Spread.{bucket_by}
-use Rattle.mm_desk.specs.Books.{BooksState, NoneDue}
+use Rattle.mm_desk.specs.Books.{BooksState}
 use Rattle.mm_desk.specs.Desk.{DeskState}
 use Rattle.mm_desk.specs.declared.reply.Adopted.{Adopted}
 use Rattle.mm_desk.specs.declared.reply.Adopted.TheVariants.{Fat, Changed, Refused}
@@ -212,7 +208,7 @@ IsOwned d at r = (b : ℕ) → Among b r.taken → Among b d.office.desk.fat →
 
 -- ---- a wait is taken back
 
-abbrev pub CancelsAt : DeskState → ℕ → Result cancel.Cancel Refusal → DeskState → Type 0
+abbrev pub CancelsAt : DeskState → ℕ → Result (Unit {0}) Refusal → DeskState → Type 0
 CancelsAt old at answer new =
     ((slice_get old.keys at ≡ None) × (answer ≡ Err NoTransaction) × (new ≡ old)) ⊎ ((k : Key) × (slice_get old.keys at ≡ Some k) × Cancels old.manager k answer new.manager)
 
@@ -224,23 +220,15 @@ HasNoNames m = (n : ℕ) (name : List ℕ) → name_of m.names n ≡ Some name �
 
 -- ---- a transaction ends
 
--- all names of others stay with them, no name gets a number, and no abort is due
+-- all names of others stay with them, and no name gets a number
 pub record IsOver (old : LockState) (k : Key) (new : LockState) : Type 0 where
   pub size : length new.names.names ≡ length old.names.names
   pub fade : NamesFade old new
   pub stay : (h : Key) (x : List ℕ) → Owns old h x → h ≢ k → Owns new h x
-  pub due : NoneDue new
 
 -- no bucket is lent to a worker whose transaction has this key
 abbrev pub NoLoansOf : DeskState → Key → Type 0
 NoLoansOf d k = (l : Lent) → Among l d.office.desk.lent → slice_get d.keys (l.number / 10) ≡ Some k → ⊥
-
--- the status of a transaction that waits, in no deadlock
-abbrev pub is_wait : Result Status Refusal → Bool
-is_wait (Ok status.Active) = false
-is_wait (Ok (status.Waiting n h aborting)) = true
-is_wait (Ok (status.Deadlock n h)) = false
-is_wait (Err refusal) = false
 
 -- what is lent was lent
 abbrev pub LoansEnd : DeskState → DeskState → Type 0
@@ -268,12 +256,10 @@ CommitsAt old at room (Err refusal) new =
 
 -- its abort
 abbrev pub AbortsAt : DeskState → ℕ → ℕ → Result Unlocked Refusal → DeskState → Type 0
-AbortsAt old at room (Ok Done) new = (k : Key) × (slice_get old.keys at ≡ Some k) × Aborts old.manager k (Ok aborts.Done) new.manager × (new.keys ≡ old.keys)
+AbortsAt old at room (Ok Done) new = (k : Key) × (slice_get old.keys at ≡ Some k) × Aborts old.manager k (Ok tt) new.manager × (new.keys ≡ old.keys)
 AbortsAt old at room (Ok NotLetGo) new = HasNotLetGo old at × KeepsManager old new
 AbortsAt old at room (Err refusal) new =
-    IsUnasked old at room refusal new
-    ⊎ ((k : Key) × (slice_get old.keys at ≡ Some k) × (may_cancel old.manager.table k ≡ Ok tt) × (refusal ≡ Waiting) × (new ≡ old))
-    ⊎ ((k : Key) × (slice_get old.keys at ≡ Some k) × Aborts old.manager k (Err refusal) new.manager × (new.keys ≡ old.keys))
+    IsUnasked old at room refusal new ⊎ ((k : Key) × (slice_get old.keys at ≡ Some k) × Aborts old.manager k (Err refusal) new.manager × (new.keys ≡ old.keys))
 
 -- ---- a worker's next transaction
 

@@ -1,17 +1,16 @@
 //! A lock manager, and how many names of each bucket it has.
 ghost use Rattle.std.specs.Prelude.{◌≡◌, ◌<◌, ◌≤◌, ◌↔◌, Ok, IsTrue, vec_capacity};
-ghost use Rattle.mm_manager.specs.Permit.{may_cancel};
 ghost use Rattle.mm_manager.specs.LockState.{IsLawful};
 ghost use Rattle.mm_manager.specs.Calls.{Aborts, Begins, Commits, LocksName, TriesName, UnlocksName, Cancels};
 ghost use Rattle.mm_desk.specs.Books.{names_in};
 ghost use Rattle.mm_desk.specs.Calls.{GrowsBy, NamesFade, OwnersStay, OthersStay, IsOver};
 
 use crate::tally::{recount, uncount};
-use mm_manager::{Abort, Cancel, Key, Lock, LockManager, Refusal, TryLock};
+use mm_manager::{Key, Lock, LockManager, Refusal, TryLock};
 use mm_thin::Spread;
 use std::marker::Model;
 
-/// A lock manager, and how many names of each bucket it has. No abort is due. A contract sees a `BooksState`.
+/// A lock manager, and how many names of each bucket it has. A contract sees a `BooksState`.
 #[derive(Drop)]
 pub(crate) struct Books {
     pub(crate) manager: LockManager,
@@ -21,13 +20,13 @@ pub(crate) struct Books {
 }
 
 impl Model for Books {
-    ghost use Rattle.mm_desk.specs.Books.{BooksState, AreBooks};
+    ghost use Rattle.mm_desk.specs.Books.{BooksState, AreCounted};
 
     ghost Value = { BooksState };
 
     ghost view = { λ b. record { manager = b.manager; spread = b.spread } };
 
-    ghost invariant = { λ b. AreBooks b.manager b.spread b.counts.items };
+    ghost invariant = { λ b. AreCounted b.spread b.manager.names.names b.counts.items };
 }
 
 impl Books {
@@ -103,7 +102,7 @@ impl Books {
     }
 
     /// Takes a wait back.
-    pub(crate) fn cancel(&mut self, key: Key) -> Result<Cancel, Refusal>
+    pub(crate) fn cancel(&mut self, key: Key) -> Result<(), Refusal>
         ensures cancels { Cancels self.old.manager key result self.new.manager }
         ensures fade { NamesFade self.old.manager self.new.manager }
         ensures stay { OwnersStay self.old.manager self.new.manager }
@@ -132,10 +131,9 @@ impl Books {
         answer
     }
 
-    /// Ends a transaction that does not wait, or waits in a deadlock: hands over all that it owns. `numbers` has room for each number.
-    pub(crate) fn abort(&mut self, key: Key, numbers: &mut Vec<u32>) -> Result<Abort, Refusal>
+    /// Ends a transaction, also one that waits: hands over all that it owns. `numbers` has room for each number.
+    pub(crate) fn abort(&mut self, key: Key, numbers: &mut Vec<u32>) -> Result<(), Refusal>
         requires room { self.old.manager.table.config.resources ≤ vec_capacity numbers.old }
-        requires active { may_cancel self.old.manager.table key ≡ Ok tt → ⊥ }
         ensures aborts { Aborts self.old.manager key result self.new.manager }
         ensures over { IsOver self.old.manager key self.new.manager }
         ensures spread { self.new.spread ≡ self.old.spread }

@@ -3,12 +3,13 @@ ghost use Rattle.std.specs.Prelude.{◌≡◌};
 ghost use Rattle.mm_desk.specs.Calls.{CancelsAt};
 
 use crate::desk::Desk;
-use mm_manager::{Cancel, Refusal};
+use mm_manager::Refusal;
 
 impl Desk {
-    /// Takes back the wait of a worker's transaction, which keeps what it owns. `Carried`: it waits on, behind a victim that has yet to
-    /// abort.
-    pub fn cancel(&mut self, at: u32) -> Result<Cancel, Refusal>
+    /// Takes back the wait of a worker's transaction, which keeps what it owns.
+    ///
+    /// Refused as `NoTransaction`, or as `NotWaiting` if it was granted the name before.
+    pub fn cancel(&mut self, at: u32) -> Result<(), Refusal>
         ensures cancels { CancelsAt self.old at result self.new }
         ensures rest { (self.new.office ≡ self.old.office) × (self.new.keys ≡ self.old.keys) }
     {

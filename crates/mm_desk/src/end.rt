@@ -1,16 +1,15 @@
 //! The end of a transaction.
 ghost use Rattle.std.specs.Prelude.{◌≡◌, ◌↔◌, ◌<◌, ◌≤◌, ℕ, List, Some, None, Ok, IsTrue, IfSome, IfNone, slice_get, vec_capacity};
 ghost use Rattle.std.specs.Bool.{OnFalse, OnTrue};
-ghost use Rattle.mm_manager.specs.Permit.{may_cancel};
 ghost use Rattle.mm_manager.specs.Calls.{Aborts, Commits};
 ghost use Rattle.mm_names.specs.Names.{name_of};
 ghost use Rattle.mm_thin.specs.Spread.{bucket_by};
-ghost use Rattle.mm_desk.specs.Calls.{IsLentTo, NoLoansOf, LoansEnd, KeepsManager, NumberIsFree, AbortsAt, CommitsAt, is_wait};
+ghost use Rattle.mm_desk.specs.Calls.{IsLentTo, NoLoansOf, LoansEnd, KeepsManager, NumberIsFree, AbortsAt, CommitsAt};
 
 use crate::desk::Desk;
 use crate::reply::Unlocked;
 use crate::room::Room;
-use mm_manager::{Abort, Key, Refusal, Status};
+use mm_manager::{Key, Refusal};
 
 impl Desk {
     /// Ends the transaction of a worker that waits for nothing: hands over all that it owns in the manager. `begin` begins the next one.
@@ -39,7 +38,7 @@ impl Desk {
         }
     }
 
-    /// Ends the transaction of a worker that is in a deadlock, or waits for nothing, as `commit` does. Refused as `Waiting` if it waits and is in no deadlock.
+    /// Ends the transaction of a worker as `commit` does, also one that waits: it takes its wait back first.
     pub fn abort(&mut self, at: u32, room: &mut Room) -> Result<Unlocked, Refusal>
         ensures aborts { AbortsAt self.old at (vec_capacity room.old.numbers) result self.new }
         ensures room { vec_capacity room.new.numbers ≡ vec_capacity room.old.numbers }
@@ -47,9 +46,6 @@ impl Desk {
         let Some(key) = self.key_of(at) else {
             return Err(Refusal::NoTransaction);
         };
-        if self.waits(key) {
-            return Err(Refusal::Waiting);
-        }
         if !self.has_room(room) {
             return Err(Refusal::NamesFull);
         }
@@ -57,20 +53,12 @@ impl Desk {
             return Ok(Unlocked::NotLetGo);
         }
         match self.roll_back(key, room) {
-            Ok(Abort::Done) => {
+            Ok(()) => {
                 self.free_empty(&room.buckets);
                 Ok(Unlocked::Done)
             }
-            Ok(Abort::Later) => Err(Refusal::Waiting),
             Err(refusal) => Err(refusal),
         }
-    }
-
-    /// Whether a transaction waits, in no deadlock.
-    fn waits(&self, key: Key) -> bool
-        ensures { IsTrue result ↔ (may_cancel self.now.manager.table key ≡ Ok tt) }
-    {
-        is_wait(self.books.manager.status(key))
     }
 
     /// Whether there is room for each number of a name.
@@ -139,10 +127,9 @@ impl Desk {
         self.books.commit(key, &mut room.numbers)
     }
 
-    /// Aborts a transaction to whose worker nothing is lent, and which does not wait or waits in a deadlock.
-    fn roll_back(&mut self, key: Key, room: &mut Room) -> Result<Abort, Refusal>
+    /// Aborts a transaction to whose worker nothing is lent.
+    fn roll_back(&mut self, key: Key, room: &mut Room) -> Result<(), Refusal>
         requires room { self.old.manager.table.config.resources ≤ vec_capacity room.old.numbers }
-        requires active { may_cancel self.old.manager.table key ≡ Ok tt → ⊥ }
         requires loans { NoLoansOf self.old key }
         ensures aborts { Aborts self.old.manager key result self.new.manager }
         ensures kept { vec_capacity room.new.numbers ≡ vec_capacity room.old.numbers }
@@ -168,17 +155,5 @@ impl Desk {
 fn add(buckets: &mut Vec<usize>, bucket: usize) {
     if buckets.len() < buckets.capacity() {
         buckets.push_reserved(bucket);
-    }
-}
-
-/// Whether a status is that of a transaction that waits, in no deadlock.
-fn is_wait(status: Result<Status, Refusal>) -> bool
-    ensures { result ≡ is_wait status }
-{
-    match status {
-        Ok(Status::Active) => false,
-        Ok(Status::Waiting { .. }) => true,
-        Ok(Status::Deadlock { .. }) => false,
-        Err(_) => false,
     }
 }

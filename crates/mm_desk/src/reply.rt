@@ -19,9 +19,9 @@ pub enum Asked {
     Granted,
     /// The transaction owns the name already.
     Held,
-    /// The transaction waits for the holder, on no cycle of waits.
+    /// The transaction waits for the holder, which does not wait for it, directly or over others.
     Waits { holder: Key },
-    /// The transaction waits for the holder, and so closed a cycle of waits. It is to abort.
+    /// The holder waits, directly or over others, for the transaction, which therefore does not wait, and owns what it owned.
     Deadlock { holder: Key },
     /// Another thread changed a bucket meanwhile, and nothing is asked for: ask again.
     Again,

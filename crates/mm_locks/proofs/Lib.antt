@@ -1,5 +1,4 @@
 mod Attempts
 mod Each
 mod Keys
-mod Moving
 mod Noting

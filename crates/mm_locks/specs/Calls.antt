@@ -1,13 +1,10 @@
 -- What the calls do to the manager behind the lock, by their answers.
-use Rattle.std.specs.Prelude.{◌≡◌, ◌≢◌, ◌⊎◌, ℕ, Bool, true, false, List, [], ◌∷◌, Option, Some, None, Result, Ok, Err, map, drop}
+use Rattle.std.specs.Prelude.{◌≡◌, ◌⊎◌, ℕ, List, [], ◌∷◌, Option, Some, None, Result, Ok, Err, map, drop}
 use Rattle.std.specs.Borrow.{Bor}
 use Rattle.mm_arena.specs.declared.key.Key.{Key}
 use Rattle.mm_manager.specs.LockState.{LockState, Owns}
 use Rattle.mm_manager.specs.Reads.{HasStatus}
 use Rattle.mm_manager.specs.declared.refusal.Refusal.{Refusal}
-use Rattle.mm_manager.specs.declared.reply.Abort.{Abort}
-use Rattle.mm_manager.specs.declared.reply.Cancel.{Cancel}
-use Rattle.mm_manager.specs.declared.reply.Cancel.TheVariants as cancel
 use Rattle.mm_manager.specs.declared.reply.Lock.TheVariants as lock
 use Rattle.mm_manager.specs.declared.reply.Status.{Status}
 use Rattle.mm_manager.specs.declared.reply.Status.TheVariants as status
@@ -30,7 +27,7 @@ Starts old (Err error) new = Because (λ refusal. Begun old (Err refusal) new) e
 abbrev pub Receives : LockState → Key → List ℕ → LockState → Type 0
 Receives old k name new = Locked old k name (Ok lock.Granted) new ⊎ Locked old k name (Ok lock.Held) new
 
--- a request: k owns the name; or it waits, on no cycle of waits; or it closed a cycle, or is refused
+-- a request: k owns the name; or it waits, on no cycle of waits; or its wait would close a cycle, or it is refused
 abbrev pub Asks : LockState → Key → List ℕ → Result Outcome LockError → LockState → Type 0
 Asks old k name (Ok (outcome.Owns granted)) new = Receives old k name new
 Asks old k name (Ok outcome.Waits) new = (h : Key) × Locked old k name (Ok (lock.Waits h)) new
@@ -39,8 +36,7 @@ Asks old k name (Err error) new =
 
 -- what a request has come to by what the transaction does, if it does not own the name
 abbrev pub found_by : Result Status Refusal → Result Outcome LockError
-found_by (Ok (status.Waiting n h aborting)) = Ok outcome.Waits
-found_by (Ok (status.Deadlock n h)) = Err Deadlock
+found_by (Ok (status.Waiting n h)) = Ok outcome.Waits
 found_by (Ok status.Active) = Err NotActive
 found_by (Err refusal) = Err NotActive
 
@@ -48,11 +44,6 @@ found_by (Err refusal) = Err NotActive
 abbrev pub Finds : LockState → Key → List ℕ → Result Outcome LockError → Type 0
 Finds m k name (Ok (outcome.Owns granted)) = Owns m k name
 Finds m k name found = ¬ Owns m k name × ((does : Result Status Refusal) × HasStatus m k does × (found ≡ found_by does))
-
--- whether what a transaction does is to be in a deadlock
-abbrev pub is_deadlock : Result Status Refusal → Bool
-is_deadlock (Ok (status.Deadlock n h)) = true
-is_deadlock does = false
 
 -- requests for these names in their order: k gets the first one, and so on with the others; or it waits for the first one, and all are left; or that one is refused
 abbrev pub AsksEach : LockState → Key → List (List ℕ) → Result (List (List ℕ)) LockError → LockState → Type 0
@@ -99,11 +90,11 @@ Tries old k name (Ok (Some granted)) new = Tried old k name (Ok tried.Granted) n
 Tries old k name (Ok None) new = (h : Key) × Tried old k name (Ok (tried.Busy h)) new
 Tries old k name (Err error) new = Because (λ refusal. Tried old k name (Err refusal) new) error
 
--- the request of k is taken back; or the manager does not do that now, or k does not wait any more, and this is what the request has come to
-abbrev pub TimesOut : LockState → Key → List ℕ → Result Outcome LockError → LockState → Type 0
-TimesOut old k name found new =
-    ((found ≡ Err TimedOut) × Cancelled old k (Ok cancel.Withdrawn) new)
-    ⊎ (((answer : Result Cancel Refusal) × (answer ≢ Ok cancel.Withdrawn) × Cancelled old k answer new) × Finds new k name found)
+-- the request of k is taken back; or the manager refuses that, and k owns the name or is not active
+abbrev pub TimesOut : LockState → Key → List ℕ → Result Granted LockError → LockState → Type 0
+TimesOut old k name (Ok granted) new = ((refusal : Refusal) × Cancelled old k (Err refusal) new) × Owns new k name
+TimesOut old k name (Err error) new =
+    ((error ≡ TimedOut) × Cancelled old k (Ok tt) new) ⊎ ((error ≡ NotActive) × ((refusal : Refusal) × Cancelled old k (Err refusal) new) × ¬ Owns new k name)
 
 -- k gives the name back, or that is refused
 abbrev pub GivesBack : LockState → Key → List ℕ → Result (Unit {0}) LockError → LockState → Type 0
@@ -112,7 +103,7 @@ GivesBack old k name (Err error) new = Because (λ refusal. Unlocked old k name 
 
 -- k is aborted; only who is not live is refused that
 abbrev pub RollsBack : LockState → Key → LockState → Type 0
-RollsBack old k new = (answer : Result Abort Refusal) × Aborted old k answer new
+RollsBack old k new = (answer : Result (Unit {0}) Refusal) × Aborted old k answer new
 
 -- k ends; or that is refused, and it is rolled back
 abbrev pub Ends : LockState → Key → Result (Unit {0}) LockError → LockState → Type 0

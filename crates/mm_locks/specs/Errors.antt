@@ -7,9 +7,8 @@ use Rattle.mm_locks.specs.declared.error.LockError.TheVariants.{Deadlock, NameEm
 
 -- ---- refusals
 
--- no refusal is `TimedOut`
+-- no refusal is `TimedOut` or `Deadlock`
 abbrev pub error_of : Refusal → LockError
-error_of refused.MustAbort = Deadlock
 error_of refused.NameEmpty = NameEmpty
 error_of refused.NameTooLong = NameTooLong
 error_of refused.NotOwner = NotOwner
@@ -46,12 +45,12 @@ of_lock error = false
 
 -- of a try for a name, which never waits and needs no label
 abbrev pub of_try : LockError → Bool
+of_try Deadlock = false
 of_try LabelsFull = false
 of_try error = of_lock error
 
 -- of `unlock`
 abbrev pub of_unlock : LockError → Bool
-of_unlock Deadlock = true
 of_unlock NameEmpty = true
 of_unlock NameTooLong = true
 of_unlock NotOwner = true
@@ -60,6 +59,5 @@ of_unlock error = false
 
 -- of `commit`
 abbrev pub of_commit : LockError → Bool
-of_commit Deadlock = true
 of_commit NotActive = true
 of_commit error = false

@@ -2,8 +2,6 @@
 pub mod Errors
 -- the processes that a call is to wake
 pub mod Wakes
--- who is overdue
-pub mod Overdue
 -- what is given out if a name is owned
 pub mod Granted
 -- what the calls do behind the lock

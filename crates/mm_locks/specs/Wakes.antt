@@ -1,12 +1,12 @@
 -- The processes that a call is to wake. A process stands for the thread of its transaction.
-use Rattle.std.specs.Prelude.{◌≡◌, ◌⊎◌, ◌≤◌, ◌<◌, ◌++◌, ℕ, Bool, true, List, length, map}
+use Rattle.std.specs.Prelude.{◌≡◌, ◌⊎◌, ◌≤◌, ◌<◌, ℕ, Bool, true, List, length, map}
 use Rattle.mm_lists.specs.Members.{Among}
 use Rattle.mm_bit_set.specs.BitSet.{has}
 use Rattle.mm_manager.specs.LockState.{LockState}
 
--- the processes that the last call told something
+-- the processes that the last call granted a name
 abbrev pub told : LockState → List ℕ
-told m = map (λ g. g.key.process) m.granted ++ map (λ k. k.process) m.aborted
+told m = map (λ g. g.key.process) m.granted
 
 -- p is to be woken: the thread that made the call has it, or the thread that looks into the set next will
 abbrev pub IsToWake : List ℕ → List Bool → ℕ → Type 0

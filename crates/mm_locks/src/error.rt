@@ -5,8 +5,9 @@ use thiserror::Error;
 /// Why a call was refused.
 #[derive(Clone, Copy, Debug, PartialEq, Eq, Error)]
 pub enum LockError {
-    /// The transaction closed a cycle of waits. It keeps what it owns until it is dropped, and each further call is refused so.
-    #[error("deadlock: the transaction is to be rolled back")]
+    /// The wait would close a cycle of waits. The transaction does not wait, and goes on with what it owns. It is to give back what others wait
+    /// for before it asks again: until then each of them waits, at the end, for this very transaction.
+    #[error("deadlock: the wait would close a cycle of waits")]
     Deadlock,
     /// The time is up. The transaction goes on, and keeps what it owns.
     #[error("the time is up")]
@@ -42,7 +43,6 @@ impl LockError {
         ensures in_time { result ≢ LockError.TimedOut }
     {
         match refusal {
-            Refusal::MustAbort => LockError::Deadlock,
             Refusal::NameEmpty => LockError::NameEmpty,
             Refusal::NameTooLong => LockError::NameTooLong,
             Refusal::NotOwner => LockError::NotOwner,

@@ -6,7 +6,6 @@
 //! - `run`: work that is done again after a deadlock, and `backoff`: the pauses before that.
 //! - `error`: why a call is refused.
 //! - `monitor`: the manager behind the lock, with the processes that it is to wake.
-//! - `told`: who is to be woken after a call of the manager.
 //! - `wakes`: the processes that a call is to wake once the lock is free.
 //! - `parkers`: where the thread of each transaction sleeps.
 //! - `patience`: how long a thread is to wait.
@@ -20,7 +19,6 @@ mod monitor;
 mod parkers;
 mod patience;
 mod run;
-mod told;
 mod transaction;
 mod wakes;
 

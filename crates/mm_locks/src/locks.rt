@@ -1,11 +1,11 @@
 //! What threads share.
 ghost use Rattle.std.specs.Prelude.{◌≡◌, ◌⊎◌, ◌↔◌, true, Err, IfErr, IfOk};
 ghost use Rattle.mm_locks.specs.Errors.{of_begin, of_lock, of_unlock, of_commit};
-ghost use Rattle.mm_locks.specs.Granted.{OwnsFor, IsForAll};
+ghost use Rattle.mm_locks.specs.Granted.{IsFor, IsForAll};
 ghost use Rattle.mm_manager.specs.Opening.{IsTransactionsOut, IsNamesOut, IsNameBytesOut};
 
 use crate::error::LockError;
-use crate::monitor::{GrantedUpTo, Monitor, Outcome};
+use crate::monitor::{Granted, GrantedUpTo, Monitor};
 use crate::parkers::Parkers;
 use crate::transaction::Transaction;
 use crate::wakes::{PendingWakes, Wakes};
@@ -16,9 +16,8 @@ use std::sync::Wait;
 
 /// A lock manager that threads share by reference: a `LockManager` behind one lock, and beside it a place to sleep for each transaction.
 ///
-/// Each call takes the lock, makes one call of the manager, lets go, and wakes exactly those that the call granted a name, or whose abort
-/// came due in it. A call that may have ended something also wakes those whose time is up and who try again. So a call may wait for the
-/// lock, and `Transaction::lock` for a name too, but nobody sleeps under the lock. What the manager promises holds of whatever stands
+/// Each call takes the lock, makes one call of the manager, lets go, and wakes exactly those that the call granted a name. So a call may wait
+/// for the lock, and `Transaction::lock` for a name too, but nobody sleeps under the lock. What the manager promises holds of whatever stands
 /// behind the lock at any time (`LockManager::keeps_laws`). No call but `open` takes memory.
 pub struct Locks {
     parkers: Parkers,
@@ -56,7 +55,7 @@ impl Locks {
     ///
     /// Refused as `LockManager::open` is: as `Transactions`, `Names` or `NameBytes` exactly if that number is out of its range and those
     /// before it are not, and as `Memory` only if a request for memory was refused. This is the one call that takes memory: what
-    /// `LockManager::open` takes, and for each transaction a cache line, in which its thread sleeps, and two bits.
+    /// `LockManager::open` takes, and for each transaction a cache line, in which its thread sleeps, and a bit.
     pub fn open(alloc: Global, config: ManagerConfig) -> Result<Locks, OpenError>
         ensures transactions { (result ≡ Err OpenError.Transactions) ↔ IsTransactionsOut config }
         ensures names { (result ≡ Err OpenError.Names) ↔ (¬ IsTransactionsOut config × IsNamesOut config) }
@@ -99,9 +98,14 @@ impl Locks {
         ensures refused { IfErr result (λ error. (of_begin error ≡ true) ⊎ (of_lock error ≡ true)) }
     {
         let (key, so_far) = self.monitor(rt).inside().begin_with(names)?;
-        let transaction = self.begun(rt, key)?;
-        let granted = transaction.go_on(so_far?)?;
-        Ok((transaction, granted))
+        let mut transaction = self.begun(rt, key)?;
+        match so_far {
+            Ok(so_far) => {
+                let granted = transaction.go_on(so_far)?;
+                Ok((transaction, granted))
+            }
+            Err(error) => Err(transaction.note(error)),
+        }
     }
 
     /// Returns the transaction of a key that has just begun.
@@ -131,14 +135,11 @@ impl Locks {
         rt: &R,
         key: Key,
         name: &'n [u8],
-    ) -> Result<Outcome<'n>, LockError>
-        ensures granted { IfOk result (OwnsFor key name.now) }
-        ensures refused { IfErr result (λ error. (error ≡ LockError.TimedOut) ⊎ (of_lock error ≡ true)) }
+    ) -> Result<Granted<'n>, LockError>
+        ensures granted { IfOk result (IsFor key name.now) }
+        ensures refused { IfErr result (λ error. (error ≡ LockError.TimedOut) ⊎ (error ≡ LockError.NotActive)) }
     {
-        let mut wakes = Wakes::new();
-        let answer = self.monitor(rt).inside().take_back(key, name, &mut wakes);
-        self.wake(rt, &wakes);
-        answer
+        self.monitor(rt).inside().take_back(key, name)
     }
 
     /// `Monitor::unlock`, and wakes the processes whose waits it ended.
@@ -161,12 +162,11 @@ impl Locks {
         answer
     }
 
-    /// `Monitor::roll_back`, and wakes the processes whose waits it ended. Returns whether the transaction was in a deadlock.
-    pub(crate) fn roll_back<R: Wait>(&self, rt: &R, key: Key) -> bool {
+    /// `Monitor::roll_back`, and wakes the processes whose waits it ended.
+    pub(crate) fn roll_back<R: Wait>(&self, rt: &R, key: Key) {
         let mut wakes = Wakes::new();
-        let was_in_deadlock = self.monitor(rt).inside().roll_back(key, &mut wakes);
+        self.monitor(rt).inside().roll_back(key, &mut wakes);
         self.wake(rt, &wakes);
-        was_in_deadlock
     }
 
     /// Returns what was counted since the opening, as `LockManager::totals`. Constant time.

@@ -3,24 +3,20 @@ ghost use Rattle.std.specs.Prelude.{◌≡◌, ◌⊎◌, ◌↔◌, ◌<◌, []
 ghost use Rattle.mm_bit_set.specs.BitSet.{HasNoneFrom};
 ghost use Rattle.mm_manager.specs.LockState.{Owns};
 ghost use Rattle.mm_manager.specs.Permit.{may_ask};
-ghost use Rattle.mm_manager.specs.Reads.{HasStatus};
-ghost use Rattle.mm_manager.specs.declared.refusal.Refusal.{Refusal as RefusalValue};
-ghost use Rattle.mm_manager.specs.declared.reply.Status.{Status as StatusValue};
-ghost use Rattle.mm_locks.specs.Calls.{Starts, StartsWith, Asks, AsksEach, GoesOn, Tries, Finds, TimesOut, GivesBack, RollsBack, Ends, bytes_of, rest, left, with_left, is_deadlock};
+ghost use Rattle.mm_locks.specs.Calls.{Starts, StartsWith, Asks, AsksEach, GoesOn, Tries, Finds, TimesOut, GivesBack, RollsBack, Ends, bytes_of, rest, left, with_left};
 ghost use Rattle.mm_locks.specs.Errors.{of_begin, of_lock, of_try, of_unlock, of_commit};
 ghost use Rattle.mm_manager.specs.Made.{Aborted};
 ghost use Rattle.mm_locks.specs.Granted.{IsFor, OwnsFor, IsAmong};
-ghost use Rattle.mm_locks.specs.Wakes.{IsToWake};
-ghost use Rattle.mm_locks.specs.Overdue.{NotesEnd, NotesTry};
+ghost use Rattle.mm_locks.specs.Wakes.{IsToWake, Notes, told};
 
 mod tokens;
 
 use crate::error::LockError;
 use crate::wakes::{MAX_WAKES, PendingWakes, Wakes};
-use mm_manager::{Abort, Cancel, Key, Lock, LockManager, Refusal, Status, Totals, TryLock};
+use mm_manager::{Key, Lock, LockManager, Refusal, Status, Totals, TryLock};
 pub use tokens::{Granted, GrantedUpTo};
 
-/// The manager, the processes whose wake-up is still pending, and those that are overdue.
+/// The manager, and the processes whose wake-up is still pending.
 #[derive(Drop)]
 pub struct Monitor {
     manager: LockManager,
@@ -189,69 +185,46 @@ impl Monitor {
         }
         match self.manager.status(key) {
             Ok(Status::Waiting { .. }) => Ok(Outcome::Waits),
-            Ok(Status::Deadlock { .. }) => Err(LockError::Deadlock),
             Ok(Status::Active) | Err(_) => Err(LockError::NotActive),
         }
     }
 
-    /// Returns whether the transaction is in a deadlock.
-    pub fn is_in_deadlock(&self, key: Key) -> bool
-        ensures { (does : Result StatusValue RefusalValue) × HasStatus self.now.manager key does × (result ≡ is_deadlock does) }
-    {
-        match self.manager.status(key) {
-            Ok(Status::Deadlock { .. }) => true,
-            Ok(Status::Active | Status::Waiting { .. }) | Err(_) => false,
-        }
-    }
-
-    /// Takes back the request of one that waits: `TimedOut` if that is done. Else it owns the name; or it waits on, since a transaction
-    /// ahead was told of a deadlock and has yet to abort, and is overdue from now on.
-    pub fn take_back<'n>(
-        &mut self,
-        key: Key,
-        name: &'n [u8],
-        wakes: &mut Wakes,
-    ) -> Result<Outcome<'n>, LockError>
+    /// Takes back the request of one that waits: `TimedOut` if that is done. Else its wait is over, and it owns the name.
+    pub fn take_back<'n>(&mut self, key: Key, name: &'n [u8]) -> Result<Granted<'n>, LockError>
         ensures times_out { TimesOut self.old.manager key name.now result self.new.manager }
-        ensures granted { IfOk result (OwnsFor key name.now) }
-        ensures refused { IfErr result (λ error. (error ≡ LockError.TimedOut) ⊎ (of_lock error ≡ true)) }
-        ensures noted { NotesTry self.new.manager key result wakes.old self.old.pending wakes.new self.new.pending }
+        ensures granted { IfOk result (IsFor key name.now) }
+        ensures refused { IfErr result (λ error. (error ≡ LockError.TimedOut) ⊎ (error ≡ LockError.NotActive)) }
+        ensures kept { self.new.pending ≡ self.old.pending }
     {
-        let answer = self.manager.cancel(key);
-        self.pending.note_told(wakes, &self.manager);
-        if let Ok(Cancel::Withdrawn) = answer {
-            self.pending.note_overdue(wakes);
+        if let Ok(()) = self.manager.cancel(key) {
             return Err(LockError::TimedOut);
         }
-        match self.outcome(key, name)? {
-            Outcome::Owns(granted) => Ok(Outcome::Owns(granted)),
-            Outcome::Waits => {
-                self.pending.add_overdue(key.process);
-                Ok(Outcome::Waits)
-            }
+        if owns(&self.manager, key, name) {
+            return Ok(self.granted(key, name));
         }
+        Err(LockError::NotActive)
     }
 
     /// Gives a name back.
     pub fn unlock(&mut self, key: Key, name: &[u8], wakes: &mut Wakes) -> Result<(), LockError>
         ensures unlocks { GivesBack self.old.manager key name.now result self.new.manager }
-        ensures noted { NotesEnd self.new.manager wakes.old self.old.pending wakes.new self.new.pending }
+        ensures noted { Notes (told self.new.manager) wakes.old.processes.items self.old.pending.set wakes.new.processes.items self.new.pending.set }
         ensures refused { IfErr result (λ error. of_unlock error ≡ true) }
     {
         let answer = self.manager.unlock(key, name);
-        self.pending.note_end(wakes, &self.manager);
+        self.pending.note_granted(wakes, self.manager.granted());
         answer.map_err(LockError::of_refusal)
     }
 
     /// Ends a transaction. One whose end is refused is rolled back.
     pub fn commit(&mut self, key: Key, wakes: &mut Wakes) -> Result<(), LockError>
         ensures ends { Ends self.old.manager key result self.new.manager }
-        ensures noted { NotesEnd self.new.manager wakes.old self.old.pending wakes.new self.new.pending }
+        ensures noted { Notes (told self.new.manager) wakes.old.processes.items self.old.pending.set wakes.new.processes.items self.new.pending.set }
         ensures refused { IfErr result (λ error. of_commit error ≡ true) }
     {
         match self.manager.commit(key) {
             Ok(()) => {
-                self.pending.note_end(wakes, &self.manager);
+                self.pending.note_granted(wakes, self.manager.granted());
                 Ok(())
             }
             Err(refusal) => {
@@ -262,24 +235,21 @@ impl Monitor {
     }
 
     /// `LockManager::abort`.
-    fn abort(&mut self, key: Key, wakes: &mut Wakes) -> Result<Abort, Refusal>
+    fn abort(&mut self, key: Key, wakes: &mut Wakes) -> Result<(), Refusal>
         ensures aborts { Aborted self.old.manager key result self.new.manager }
-        ensures noted { NotesEnd self.new.manager wakes.old self.old.pending wakes.new self.new.pending }
+        ensures noted { Notes (told self.new.manager) wakes.old.processes.items self.old.pending.set wakes.new.processes.items self.new.pending.set }
     {
         let answer = self.manager.abort(key);
-        self.pending.note_end(wakes, &self.manager);
+        self.pending.note_granted(wakes, self.manager.granted());
         answer
     }
 
-    /// Ends a transaction, be it in a deadlock or not. Returns whether it was in one.
-    pub fn roll_back(&mut self, key: Key, wakes: &mut Wakes) -> bool
-        ensures was { (does : Result StatusValue RefusalValue) × HasStatus self.old.manager key does × (result ≡ is_deadlock does) }
+    /// Rolls a transaction back.
+    pub fn roll_back(&mut self, key: Key, wakes: &mut Wakes)
         ensures aborts { RollsBack self.old.manager key self.new.manager }
-        ensures noted { NotesEnd self.new.manager wakes.old self.old.pending wakes.new self.new.pending }
+        ensures noted { Notes (told self.new.manager) wakes.old.processes.items self.old.pending.set wakes.new.processes.items self.new.pending.set }
     {
-        let was_in_deadlock = self.is_in_deadlock(key);
         let _ = self.abort(key, wakes);
-        was_in_deadlock
     }
 
     pub fn totals(&self) -> Totals
@@ -298,7 +268,6 @@ impl Monitor {
     pub fn take_pending(&mut self) -> Wakes
         ensures taken { (p : ℕ) → IsToWake [] self.old.pending.set p ↔ IsToWake result.processes.items self.new.pending.set p }
         ensures rest { length result.processes.items < MAX_WAKES → HasNoneFrom self.new.pending.set 0 }
-        ensures overdue { self.new.pending.overdue ≡ self.old.pending.overdue }
         ensures manager { self.new.manager ≡ self.old.manager }
     {
         self.pending.take()

@@ -15,7 +15,7 @@ use std::thread::Parker;
 /// Why an attempt failed.
 #[derive(Drop)]
 enum Failure<E> {
-    /// The transaction of this key was in a deadlock: another attempt may succeed.
+    /// The transaction of this key was told `Deadlock`, and gave nothing back since: another attempt may succeed.
     Deadlock { error: E, key: Key },
     Other(E),
 }
@@ -23,11 +23,11 @@ enum Failure<E> {
 impl Locks {
     /// Begins a transaction, lends it to the work, commits it, and returns what the work returned.
     ///
-    /// If the transaction comes to be in a deadlock, it is rolled back, whatever the work made of that error; and after a pause all is done
+    /// If the work fails after `Deadlock`, and has given nothing back since, the transaction is rolled back; and after a pause all is done
     /// again in a new transaction, at most `attempts` times, and once at the least. A pause is of a random length. Its bound is 32 microseconds
     /// at first, and doubles with each attempt up to 33 milliseconds. If the work fails otherwise, the transaction is rolled back and the
     /// error returned, and so is the error of the last attempt. The locks do not know what the work wrote: it undoes that itself before it
-    /// returns an error.
+    /// returns an error. Work that goes back to a savepoint after `Deadlock`, and then succeeds, is committed.
     ///
     /// Refused as `begin` and `commit` are, and as the work is.
     pub fn run<
@@ -91,13 +91,8 @@ fn committed<R: Wait, T: Drop, E: From<LockError>>(
     ensures value { IfOk result (λ value_now. value_now ≡ value) }
     ensures error { IfErr result (λ failure. (refused : LockErrorValue) × (of_commit refused ≡ true) × E.from_gives refused (error_in failure)) }
 {
-    let key = transaction.key();
     match transaction.commit() {
         Ok(()) => Ok(value),
-        Err(LockError::Deadlock) => Err(Failure::Deadlock {
-            error: E::from(LockError::Deadlock),
-            key,
-        }),
         Err(error) => Err(Failure::Other(E::from(error))),
     }
 }

@@ -13,20 +13,22 @@ use mm_mutex::stay_away;
 use std::sync::Wait;
 use std::time::{Clock, Duration};
 
-/// How often the thread of a victim yields its processor when the victim was rolled back. One that began again at once would often close the
-/// same cycle once more, before the others are done.
-const VICTIM_YIELDS: u32 = 256;
+/// How often a thread yields its processor when it has rolled back a transaction that was told `Deadlock`. One that began again at once would
+/// often be told the same, before the others are done.
+const DEADLOCK_YIELDS: u32 = 256;
 
 /// A transaction. If it is dropped it is rolled back: all that it owns is handed over, and the processes that were granted something are
-/// woken. After a deadlock the drop then yields the processor for a while, so that the others come to their ends before the caller begins
-/// again.
+/// woken. If it was told `Deadlock` and has given nothing back since, the drop then yields the processor for a while, so that the others
+/// come to their ends before the caller begins again.
 ///
-/// Between its calls it does not wait: it is active, or in a deadlock. One thread at a time has it, and may hand it to another one.
+/// Between its calls it does not wait. One thread at a time has it, and may hand it to another one.
 pub struct Transaction<'m, R: Wait> {
     rt: &'m R,
     locks: &'m Locks,
     parker: &'m FlaggedParker,
     key: Key,
+    /// Whether it was told `Deadlock` and has given nothing back since.
+    is_in_deadlock: bool,
 }
 
 impl<'m, R: Wait> Drop for Transaction<'m, R> {
@@ -36,9 +38,11 @@ impl<'m, R: Wait> Drop for Transaction<'m, R> {
             locks,
             parker: _,
             key,
+            is_in_deadlock,
         } = self;
-        if locks.roll_back(rt, key) {
-            stay_away(VICTIM_YIELDS);
+        locks.roll_back(rt, key);
+        if is_in_deadlock {
+            stay_away(DEADLOCK_YIELDS);
         }
     }
 }
@@ -57,6 +61,7 @@ impl<'m, R: Wait> Transaction<'m, R> {
             locks,
             parker,
             key,
+            is_in_deadlock: false,
         }
     }
 
@@ -65,10 +70,18 @@ impl<'m, R: Wait> Transaction<'m, R> {
     }
 
     pub(crate) fn is_in_deadlock(&self) -> bool {
-        self.locks
-            .monitor(self.rt)
-            .inside()
-            .is_in_deadlock(self.key)
+        self.is_in_deadlock
+    }
+
+    /// Notes why a request was refused, and returns it.
+    pub(crate) fn note(&mut self, error: LockError) -> LockError
+        ensures error { result ≡ error }
+        ensures key { self.new.key ≡ self.old.key }
+    {
+        if let LockError::Deadlock = error {
+            self.is_in_deadlock = true;
+        }
+        error
     }
 
     /// Asks for the name. The lock is free when this returns.
@@ -90,20 +103,21 @@ impl<'m, R: Wait> Transaction<'m, R> {
 
     /// Locks the name: returns when the transaction owns it, at once if nobody else does, and else it sleeps until it was granted.
     ///
-    /// `Deadlock` comes at once too, if the wait would close a cycle of waits; no other call makes a victim of one that sleeps. The
-    /// transaction is then to be dropped: it keeps what it owns until that, so that its caller can undo what it did. Until then each further
-    /// call is refused as `Deadlock` too; `commit` also rolls it back. A name that it owns already is `Ok`, and is owned once. Refused as
-    /// `Deadlock`, `NameEmpty`, `NameTooLong`, `NamesFull`, `CountsFull` or `LabelsFull`. A refusal changes nothing, but that the victim of
-    /// a deadlock waits from then on. `LockManager::lock` says what the call costs without the sleep; a call that slept looks the name up
-    /// once more.
+    /// `Deadlock` comes at once too, if the wait would close a cycle of waits; one that sleeps is never told of it. The transaction does not
+    /// wait then, and goes on with what it owns. Give back what others wait for before you ask again: `unlock` what was locked since a
+    /// savepoint, or drop the transaction. Until then the answer is the same, and the others on the cycle cannot go on. A name that it owns
+    /// already is `Ok`, and is owned once. Refused as `Deadlock`, `NameEmpty`, `NameTooLong`, `NamesFull`, `CountsFull` or `LabelsFull`. A
+    /// refusal changes nothing. `LockManager::lock` says what the call costs without the sleep; a call that slept looks the name up once
+    /// more.
     #[inline]
     pub fn lock<'n>(&mut self, name: &'n [u8]) -> Result<Granted<'n>, LockError>
         ensures granted { IfOk result (IsFor self.old.key name.now) }
         ensures refused { IfErr result (λ error. of_lock error ≡ true) }
     {
-        match self.request(name)? {
-            Outcome::Owns(granted) => Ok(granted),
-            Outcome::Waits => self.sleep(name),
+        match self.request(name) {
+            Ok(Outcome::Owns(granted)) => Ok(granted),
+            Ok(Outcome::Waits) => self.sleep(name),
+            Err(error) => Err(self.note(error)),
         }
     }
 
@@ -132,20 +146,30 @@ impl<'m, R: Wait> Transaction<'m, R> {
         ensures refused { IfErr result (λ error. of_lock error ≡ true) }
     {
         let none = GrantedUpTo::none(self.key, names);
-        let so_far = self.locks.monitor(self.rt).inside().lock_each(none)?;
-        self.go_on(so_far)
+        let answer = self.locks.monitor(self.rt).inside().lock_each(none);
+        match answer {
+            Ok(so_far) => self.go_on(so_far),
+            Err(error) => Err(self.note(error)),
+        }
     }
 
     /// Returns at once if all names were granted; else the transaction waits for the first one that is left.
     #[inline]
-    pub(crate) fn go_on<'n>(&self, so_far: GrantedUpTo<'n>) -> Result<GrantedUpTo<'n>, LockError>
+    pub(crate) fn go_on<'n>(
+        &mut self,
+        so_far: GrantedUpTo<'n>,
+    ) -> Result<GrantedUpTo<'n>, LockError>
         ensures granted { IfOk result (IsForAll so_far.entry.key so_far.entry.names.now) }
         ensures refused { IfErr result (λ error. of_lock error ≡ true) }
+        ensures key { self.new.key ≡ self.old.key }
     {
         if so_far.is_all() {
             return Ok(so_far);
         }
-        self.sleep_for_each(so_far)
+        match self.sleep_for_each(so_far) {
+            Ok(granted) => Ok(granted),
+            Err(error) => Err(self.note(error)),
+        }
     }
 
     /// Sleeps until the transaction owns the first name that is left, for which it waits, and goes on with those after it.
@@ -167,7 +191,7 @@ impl<'m, R: Wait> Transaction<'m, R> {
 
     /// Locks the name if nobody else owns it, and never sleeps for it. Returns `None` if another transaction owns it.
     ///
-    /// Refused as `Deadlock`, `NameEmpty`, `NameTooLong`, `NamesFull` or `CountsFull`. `O(length)`.
+    /// Refused as `NameEmpty`, `NameTooLong`, `NamesFull` or `CountsFull`. `O(length)`.
     pub fn try_lock<'n>(&mut self, name: &'n [u8]) -> Result<Option<Granted<'n>>, LockError>
         ensures granted { IfOk result (λ tried. IfSome tried (IsFor self.old.key name.now)) }
         ensures refused { IfErr result (λ error. of_try error ≡ true) }
@@ -180,16 +204,18 @@ impl<'m, R: Wait> Transaction<'m, R> {
 
     /// Gives the name back: its longest waiter owns it from now on, and is woken; with no waiter it is free.
     ///
-    /// Refused as `Deadlock`, `NameEmpty`, `NameTooLong` or `NotOwner`. It costs what `LockManager::unlock` costs.
+    /// Refused as `NameEmpty`, `NameTooLong` or `NotOwner`. It costs what `LockManager::unlock` costs.
     pub fn unlock(&mut self, name: &[u8]) -> Result<(), LockError>
         ensures refused { IfErr result (λ error. of_unlock error ≡ true) }
     {
-        self.locks.unlock(self.rt, self.key, name)
+        self.locks.unlock(self.rt, self.key, name)?;
+        self.is_in_deadlock = false;
+        Ok(())
     }
 
     /// Ends the transaction: all that it owns is handed over, and the processes that were granted something are woken.
     ///
-    /// A transaction that is in a deadlock is rolled back, and the call is refused as `Deadlock`. It costs what `LockManager::commit` costs.
+    /// It costs what `LockManager::commit` costs.
     pub fn commit(self) -> Result<(), LockError>
         ensures refused { IfErr result (λ error. of_commit error ≡ true) }
     {
@@ -198,6 +224,7 @@ impl<'m, R: Wait> Transaction<'m, R> {
             locks,
             parker: _,
             key,
+            is_in_deadlock: _,
         } = self;
         locks.commit(rt, key)
     }
@@ -206,10 +233,8 @@ impl<'m, R: Wait> Transaction<'m, R> {
 impl<'m, R: Wait + Clock> Transaction<'m, R> {
     /// `lock` that gives up: `TimedOut` if the name was not granted in this time. The transaction then goes on, and keeps what it owns.
     ///
-    /// It returns after the time and a scheduling delay at most, but while a transaction ahead was told of a deadlock and has yet to abort:
-    /// the request can then not be taken back. The thread sleeps on and tries again after each end, until it may take the request back, or
-    /// is granted the name. It never gives up before the time. A clock that cannot be read counts as a time that is up. Else refused as
-    /// `lock` is.
+    /// It returns after the time and a scheduling delay at most, and never gives up before the time. A clock that cannot be read counts as a
+    /// time that is up. Else refused as `lock` is.
     pub fn lock_for<'n>(
         &mut self,
         name: &'n [u8],
@@ -218,33 +243,27 @@ impl<'m, R: Wait + Clock> Transaction<'m, R> {
         ensures granted { IfOk result (IsFor self.old.key name.now) }
         ensures refused { IfErr result (λ error. (error ≡ LockError.TimedOut) ⊎ (of_lock error ≡ true)) }
     {
-        match self.request(name)? {
-            Outcome::Owns(granted) => Ok(granted),
-            Outcome::Waits => self.sleep_for(name, limit),
+        match self.request(name) {
+            Ok(Outcome::Owns(granted)) => Ok(granted),
+            Ok(Outcome::Waits) => self.sleep_for(name, limit),
+            Err(error) => Err(self.note(error)),
         }
     }
 
-    /// Sleeps until the transaction owns what it waits for, or the time is up and the request taken back. After each refusal of that it
-    /// sleeps until the next end: only an end can make it possible.
+    /// Sleeps until the transaction owns what it waits for, or the time is up and the request taken back.
     #[inline(never)]
     fn sleep_for<'n>(&self, name: &'n [u8], limit: Duration) -> Result<Granted<'n>, LockError>
         ensures granted { IfOk result (IsFor self.now.key name.now) }
         ensures refused { IfErr result (λ error. (error ≡ LockError.TimedOut) ⊎ (of_lock error ≡ true)) }
     {
         let patience = Patience::new(self.rt, limit);
-        let mut left = patience.left(self.rt);
         for _ in self.rt.forever() {
-            if let Some(time) = left {
-                self.parker.park_timeout(self.rt, time);
-                if let Outcome::Owns(granted) = self.outcome(name)? {
-                    return Ok(granted);
-                }
-                left = patience.left(self.rt);
-            } else {
-                if let Outcome::Owns(granted) = self.locks.take_back(self.rt, self.key, name)? {
-                    return Ok(granted);
-                }
-                self.parker.park(self.rt);
+            let Some(time) = patience.left(self.rt) else {
+                return self.locks.take_back(self.rt, self.key, name);
+            };
+            self.parker.park_timeout(self.rt, time);
+            if let Outcome::Owns(granted) = self.outcome(name)? {
+                return Ok(granted);
             }
         }
         unreachable!()

@@ -1,16 +1,13 @@
 -- What the calls do, in terms of names.
-use Rattle.std.specs.Prelude.{◌≡◌, ◌≢◌, ◌⊎◌, ◌↔◌, ℕ, Bool, true, false, List, [], ◌∷◌, ◌++◌, length, Some, Result, Ok, Err, slice_set}
+use Rattle.std.specs.Prelude.{◌≡◌, ◌≢◌, ◌⊎◌, ◌↔◌, ℕ, true, false, List, length, Some, Result, Ok, Err}
 use Rattle.mm_arena.specs.declared.key.Key.{Key}
 use Rattle.mm_lists.specs.Members.{Among}
-use Rattle.mm_bit_set.specs.BitSet.{has}
 use Rattle.mm_names.specs.Names.{NameTable, name_of, Interns}
 use Rattle.mm_rules.specs.declared.reply.Released.{Released}
-use Rattle.mm_rules.specs.TableState.{TableState, is_live, has_verdict, owner_of}
-use Rattle.mm_rules.specs.Victims.{IsOnCycle}
-use Rattle.mm_rules.specs.Event.{Event, Begin, Release, Finish, Answer, Step, Abort}
-use Rattle.mm_rules.specs.Withdraw.{IsBehindVictim, Withdraws}
-use Rattle.mm_rules.specs.declared.refusal.Refusal.TheVariants.{Carried}
-use Rattle.mm_settled.specs.Calls.{Locks, Made, MadeWithdrawal, OthersKeepVerdicts}
+use Rattle.mm_rules.specs.TableState.{TableState, is_live, owner_of}
+use Rattle.mm_rules.specs.TakeBack.{LeadsTo, IsSameButLabels}
+use Rattle.mm_rules.specs.Event.{Event, Begin, Release, Finish, Answer, Step}
+use Rattle.mm_settled.specs.Calls.{Locks, Made, MadeWithdrawal}
 use Rattle.mm_settled.specs.Grants.{grants}
 use Rattle.mm_settled.specs.declared.reply.Grant.{Grant}
 use Rattle.mm_settled.specs.declared.reply.Locked.{Locked}
@@ -20,10 +17,6 @@ use Rattle.mm_manager.specs.LockState.{LockState, Owns, Waits, IsUnowned, KeepOw
 use Rattle.mm_manager.specs.Refused.{TryRefused, LockRefused, UnlockRefused}
 use Rattle.mm_manager.specs.declared.refusal.Refusal.{Refusal}
 use Rattle.mm_manager.specs.declared.refusal.Refusal.TheVariants.{NoTransaction}
-use Rattle.mm_manager.specs.declared.reply.Abort as abort
-use Rattle.mm_manager.specs.declared.reply.Cancel as cancel
-use Rattle.mm_manager.specs.declared.reply.Cancel.TheVariants as cancels
-use Rattle.mm_manager.specs.declared.reply.Abort.TheVariants as aborts
 use Rattle.mm_manager.specs.declared.reply.Lock.{Lock}
 use Rattle.mm_manager.specs.declared.reply.Lock.TheVariants as lock
 use Rattle.mm_manager.specs.declared.reply.TryLock.{TryLock}
@@ -54,12 +47,19 @@ pub record Queues (old : LockState) (k : Key) (name : List ℕ) (h : Key) (new :
   pub others : (g : Key) (other : List ℕ) → g.process ≢ k.process → Waits new g other ↔ Waits old g other
   pub config : new.table.config ≡ old.table.config
 
+-- h owns the name, and waits, directly or over others, for k: so k does not wait, and but for labels and counts all is as before
+pub record IsDeclined (old : LockState) (k : Key) (name : List ℕ) (h : Key) (new : LockState) : Type 0 where
+  pub holder : Owns old h name
+  pub closes : LeadsTo old.table h.process k.process
+  pub same : IsSameButLabels old.table new.table
+  pub state : new ≡ record (untold old) { table = new.table; totals = new.totals }
+
 -- what a request for a name does, by its answer
 abbrev pub LocksName : LockState → Key → List ℕ → Result Lock Refusal → LockState → Type 0
 LocksName old k name (Ok lock.Granted) new = Gets old k name new
 LocksName old k name (Ok lock.Held) new = Owns old k name × (new ≡ untold old)
-LocksName old k name (Ok (lock.Waits h)) new = Queues old k name h new × ¬ IsOnCycle new.table k.process
-LocksName old k name (Ok (lock.Deadlock h)) new = Queues old k name h new × IsOnCycle new.table k.process
+LocksName old k name (Ok (lock.Waits h)) new = Queues old k name h new × ¬ LeadsTo old.table h.process k.process
+LocksName old k name (Ok (lock.Deadlock h)) new = IsDeclined old k name h new
 LocksName old k name (Err refusal) new = (new ≡ untold old) × LockRefused old k name refusal
 
 -- what a try does, by its answer: it never waits
@@ -92,31 +92,18 @@ Tries s t k name (tried.Busy h) new named = (h ≢ k) × Finds s t name h new na
 
 -- ---- hand-overs
 
--- from s these transactions end, one after the other, and this is all that they hand over, in order
-abbrev pub EndsAll : TableState → List Key → List Grant → TableState → Type 0
-EndsAll s [] granted new = (new ≡ s) × (granted ≡ [])
-EndsAll s (k ∷ ks) granted new = (mid : TableState) × (later : List Grant) × Made (Finish k) s tt mid × (granted ≡ grants s mid ++ later) × EndsAll mid ks later new
-
--- the event is made in the table at rest, then those end whose abort is due by that; the lists tell of both, and a number keeps its name exactly while it is owned
+-- the event is made in the table at rest, the list tells of its grants, and a number keeps its name exactly while it is owned
 pub record HandsOver (e : Event) (old : LockState) (answer : Answer e) (new : LockState) : Type 0 where
-  pub mid : TableState
-  pub made : Made e old.table answer mid
-  pub later : List Grant
-  pub granted : new.granted ≡ grants old.table mid ++ later
-  pub ends : EndsAll mid new.aborted later new.table
+  pub made : Made e old.table answer new.table
+  pub granted : new.granted ≡ grants old.table new.table
   pub names : KeepOwned old.names new.table new.names
-
--- those are aborted whose abort was due and who were granted something, and nobody else; all other marks stay
-pub record AbortsDue (old new : LockState) : Type 0 where
-  pub aborted : (k : Key) → Among k new.aborted ↔ ((has old.due k.process ≡ true) × ((g : Grant) × Among g new.granted × (g.key ≡ k)))
-  pub stay : (p : ℕ) → (has new.due p ≡ true) ↔ ((has old.due p ≡ true) × ((g : Grant) → Among g new.granted → g.key.process ≢ p))
 
 -- h was granted the name
 abbrev pub IsGranted : LockState → LockState → Key → List ℕ → Type 0
 IsGranted old new h name = (g : Grant) × Among g new.granted × (g.key ≡ h) × (name_of old.names g.resource ≡ Some name)
 
--- what a call of k does to all: who loses a name does not own it afterwards; `granted` are the waits that ended, but for that of k; nobody else gets or loses a verdict; all else stays,
--- also how many names there can be and how many bytes each may have
+-- what a call of k does to all: who loses a name does not own it afterwards; `granted` are the waits that ended, but for that of k; all else stays, also how many names there can
+-- be and how many bytes each may have
 pub record Passes (old : LockState) (k : Key) (Loses : Key → List ℕ → Type 0) (new : LockState) : Type 0 where
   pub keeps : (h : Key) (name : List ℕ) → Owns old h name → ¬ Loses h name → Owns new h name
   pub gains : (h : Key) (name : List ℕ) → Owns new h name → ¬ Loses h name × (Owns old h name ⊎ IsGranted old new h name)
@@ -125,20 +112,19 @@ pub record Passes (old : LockState) (k : Key) (Loses : Key → List ℕ → Type
   pub waits : (h : Key) (name : List ℕ) → Waits new h name → Waits old h name
   pub ended : (h : Key) (name : List ℕ) → h.process ≢ k.process → Waits old h name
       → Waits new h name ⊎ ((g : Key) × (g.process ≡ h.process) × IsGranted old new g name)
-  pub verdicts : OthersKeepVerdicts old.table new.table k.process
   pub config : new.table.config ≡ old.table.config
   pub numbers : length new.names.names ≡ length old.names.names
   pub name_bytes : new.names.name_bytes ≡ old.names.name_bytes
 
 -- ---- unlock, commit
 
--- k this name, or a transaction that is aborted
-abbrev pub LosesName : Key → List ℕ → List Key → Key → List ℕ → Type 0
-LosesName k name aborted h other = ((h ≡ k) × (other ≡ name)) ⊎ Among h aborted
+-- k loses this name
+abbrev pub LosesName : Key → List ℕ → Key → List ℕ → Type 0
+LosesName k name h other = (h ≡ k) × (other ≡ name)
 
--- k all that it owns, or a transaction that is aborted
-abbrev pub LosesAll : Key → List Key → Key → List ℕ → Type 0
-LosesAll k aborted h name = (h ≡ k) ⊎ Among h aborted
+-- k loses all that it owns
+abbrev pub LosesAll : Key → Key → List ℕ → Type 0
+LosesAll k h name = h ≡ k
 
 -- k owned the name, by its number; it is handed over
 pub record Unlocks (old : LockState) (k : Key) (name : List ℕ) (new : LockState) : Type 0 where
@@ -147,14 +133,12 @@ pub record Unlocks (old : LockState) (k : Key) (name : List ℕ) (new : LockStat
   pub owned : owner_of old.table number ≡ Some k
   pub answer : Released
   pub over : HandsOver (Release k number) old answer new
-  pub passes : Passes old k (LosesName k name new.aborted) new
-  pub due : AbortsDue old new
+  pub passes : Passes old k (LosesName k name) new
 
--- k ends by this event, and hands over all that it owned
-pub record EndsBy (e : Event) (old : LockState) (answer : Answer e) (k : Key) (new : LockState) : Type 0 where
-  pub over : HandsOver e old answer new
-  pub passes : Passes old k (LosesAll k new.aborted) new
-  pub due : AbortsDue old new
+-- k, which did not wait, ends, and hands over all that it owned
+pub record Ends (old : LockState) (k : Key) (new : LockState) : Type 0 where
+  pub over : HandsOver (Finish k) old tt new
+  pub passes : Passes old k (LosesAll k) new
 
 -- what an unlock does, by its answer
 abbrev pub UnlocksName : LockState → Key → List ℕ → Result (Unit {0}) Refusal → LockState → Type 0
@@ -163,41 +147,31 @@ UnlocksName old k name (Err refusal) new = (new ≡ untold old) × UnlockRefused
 
 -- what a commit does, by its answer
 abbrev pub Commits : LockState → Key → Result (Unit {0}) Refusal → LockState → Type 0
-Commits old k (Ok done) new = EndsBy (Finish k) old tt k new
+Commits old k (Ok done) new = Ends old k new
 Commits old k (Err refusal) new = (new ≡ untold old) × (may_ask old.table k ≡ Err refusal)
 
 -- ---- a wait that is taken back
 
--- k waits for nothing from now on, and owns what it owned; these are the marks then; all else stays but the counts, and nobody is told of
-pub record TakesBack (old : LockState) (k : Key) (due : List Bool) (new : LockState) : Type 0 where
+-- k waits for nothing from now on, and owns what it owned; all else stays but the counts, and nobody is told of
+pub record TakesBack (old : LockState) (k : Key) (new : LockState) : Type 0 where
   pub made : MadeWithdrawal k old.table new.table
   pub idle : (name : List ℕ) → ¬ Waits new k name
   pub owners : (h : Key) (name : List ℕ) → Owns new h name ↔ Owns old h name
   pub others : (h : Key) (name : List ℕ) → h.process ≢ k.process → Waits new h name ↔ Waits old h name
-  pub verdicts : (v : ℕ) → has_verdict new.table v ≡ has_verdict old.table v
-  pub state : new ≡ record (untold old) { table = new.table; due = due; totals = new.totals }
+  pub state : new ≡ record (untold old) { table = new.table; totals = new.totals }
 
--- the table refuses the withdrawal of k as `Carried`: k waits, directly or over others, for a victim, which has yet to abort
-abbrev pub IsCarried : TableState → Key → Type 0
-IsCarried s k = Withdraws k s (Err Carried) s × IsBehindVictim s k.process
+-- what a cancel does, by its answer
+abbrev pub Cancels : LockState → Key → Result (Unit {0}) Refusal → LockState → Type 0
+Cancels old k (Ok done) new = TakesBack old k new
+Cancels old k (Err refusal) new = (new ≡ untold old) × (may_cancel old.table k ≡ Err refusal)
 
 -- ---- abort
 
--- k ended: it was active, or in a deadlock, or its wait was taken back first
-abbrev pub IsEnded : LockState → Key → LockState → Type 0
-IsEnded old k new = EndsBy (Finish k) old tt k new ⊎ EndsBy (Abort k) old tt k new ⊎ ((mid : LockState) × TakesBack old k (slice_set old.due k.process false) mid × EndsBy (Finish k) mid tt k new)
+-- k, which waited, took back its wait and ended
+abbrev pub EndsWaiting : LockState → Key → LockState → Type 0
+EndsWaiting old k new = (mid : LockState) × TakesBack old k mid × Ends mid k new
 
--- what an abort does, by its answer: only who waits behind a victim, and is none itself, can be told `Later`, and only who is not live is refused
-abbrev pub Aborts : LockState → Key → Result abort.Abort Refusal → LockState → Type 0
-Aborts old k (Ok aborts.Done) new = IsEnded old k new
-Aborts old k (Ok aborts.Later) new = (may_cancel old.table k ≡ Ok tt) × IsCarried old.table k × (new ≡ record (untold old) { due = slice_set old.due k.process true })
+-- what an abort does, by its answer: it is always done at once, and only who is not live is refused
+abbrev pub Aborts : LockState → Key → Result (Unit {0}) Refusal → LockState → Type 0
+Aborts old k (Ok done) new = Ends old k new ⊎ EndsWaiting old k new
 Aborts old k (Err refusal) new = (new ≡ untold old) × (is_live old.table k ≡ false) × (refusal ≡ NoTransaction)
-
--- ---- cancel
-
--- what a cancel does, by its answer: that of one whose abort is due is an abort
-abbrev pub Cancels : LockState → Key → Result cancel.Cancel Refusal → LockState → Type 0
-Cancels old k (Ok cancels.Withdrawn) new =
-    ((has old.due k.process ≡ false) × TakesBack old k old.due new) ⊎ ((has old.due k.process ≡ true) × Aborts old k (Ok aborts.Done) new)
-Cancels old k (Ok cancels.Carried) new = IsCarried old.table k × (new ≡ untold old)
-Cancels old k (Err refusal) new = (new ≡ untold old) × (may_cancel old.table k ≡ Err refusal)

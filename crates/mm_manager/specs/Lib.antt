@@ -1,5 +1,3 @@
--- a walk along the waits
-pub mod Walk
 -- what a contract sees of a lock manager
 pub mod LockState
 -- the numbers of an opening

@@ -1,21 +1,18 @@
 -- What a contract sees of a lock manager, and who owns and who waits for which name. A name is a list of bytes.
-use Rattle.std.specs.Prelude.{◌≡◌, ◌≢◌, ◌↔◌, ◌≤◌, ◌<◌, ℕ, Bool, true, false, List, [], length, Some, None, is_some, if◌then◌else◌}
+use Rattle.std.specs.Prelude.{◌≡◌, ◌≢◌, ◌↔◌, ◌≤◌, ◌<◌, ℕ, true, List, [], length, Some, None, is_some, if◌then◌else◌}
 use Rattle.mm_arena.specs.declared.key.Key.{Key}
-use Rattle.mm_bit_set.specs.BitSet.{has}
 use Rattle.mm_names.specs.Names.{NameTable, name_of, IsLawful as IsLawfulNames}
-use Rattle.mm_rules.specs.TableState.{TableState, is_live, owner_of, wait_of, is_waiting, has_verdict}
+use Rattle.mm_rules.specs.TableState.{TableState, is_live, owner_of, wait_of}
 use Rattle.mm_rules.specs.Laws.{Laws, AtRest}
+use Rattle.mm_rules.specs.TakeBack.{HasNoVictim, NobodyWaitsForItself}
 use Rattle.mm_settled.specs.declared.reply.Grant.{Grant}
 use Rattle.mm_manager.specs.Totals.{all_of}
-use Rattle.mm_manager.specs.Walk.{walk}
 use Rattle.mm_manager.specs.declared.totals.Totals.{Totals}
 
 pub record LockState : Type 0 where
   pub table : TableState  -- its resources are the numbers of names
   pub names : NameTable
-  pub due : List Bool  -- by process: whether its transaction is aborted as soon as its wait ends
   pub granted : List Grant  -- the grants of the last call, in order
-  pub aborted : List Key  -- whose abort came due in the last call, in order
   pub totals : Totals  -- what was counted since the opening
 
 -- k owns the name
@@ -32,7 +29,7 @@ IsUnowned m name = (k : Key) → ¬ Owns m k name
 
 -- the same, with nothing told
 abbrev pub untold : LockState → LockState
-untold m = record m { granted = []; aborted = [] }
+untold m = record m { granted = [] }
 
 -- a number that is owned keeps its name, and no other one has one; how many numbers there are and how many bytes a name may have stays
 pub record KeepOwned (old : NameTable) (table : TableState) (new : NameTable) : Type 0 where
@@ -44,15 +41,13 @@ pub record KeepOwned (old : NameTable) (table : TableState) (new : NameTable) : 
 pub record IsLawful (m : LockState) : Type 0 where
   pub laws : Laws m.table  -- those of the table
   pub rest : AtRest m.table
+  pub none : HasNoVictim m.table  -- no verdict stands
+  pub apart : NobodyWaitsForItself m.table  -- directly or over others
   pub names : IsLawfulNames m.names  -- no two numbers have one name
   pub numbered : (n : ℕ) → (name_of m.names n ≡ None) ↔ (owner_of m.table n ≡ None)  -- a number has a name exactly while it has an owner
-  pub marks : length m.due ≡ m.table.config.processes  -- each process has a mark
-  pub due : (n : ℕ) → has m.due n ≡ true → (is_waiting m.table n ≡ true) × (has_verdict m.table n ≡ false)  -- each transaction whose abort is due waits, in no deadlock
   pub waited : (k : Key) (name : List ℕ) → Waits m k name → (h : Key) × Owns m h name × (h.process ≢ k.process)  -- who waits, waits for an owner
   pub slots : (k : Key) → is_live m.table k ≡ true → k.process < m.table.config.processes  -- a live transaction has one of the slots
   pub alone : (j k : Key) → is_live m.table j ≡ true → is_live m.table k ≡ true → j.process ≡ k.process → j ≡ k  -- no two have one slot
-  pub returns : (k : Key) → is_live m.table k ≡ true → has_verdict m.table k.process ≡ true
-      → (i : ℕ) × (0 < i) × (i ≤ m.table.config.processes) × (walk m.table i k ≡ Some k)  -- a walk along the waits from a victim returns to it
   pub counted : all_of m.totals ≤ m.table.totals.accepted  -- the counts together are no more than the events
 
 -- k has one of the slots, and no other live transaction has that one

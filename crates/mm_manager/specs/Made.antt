@@ -1,15 +1,11 @@
 -- All that the contract of a call says, in one record a call, by the answer. A crate above that makes the call for its own caller cites the record.
-use Rattle.std.specs.Prelude.{◌≡◌, ℕ, List, [], length, Result, Ok, IfOk, OnOk}
+use Rattle.std.specs.Prelude.{◌≡◌, ℕ, List, [], Result, Ok, IfOk, OnOk}
 use Rattle.mm_arena.specs.declared.key.Key.{Key}
-use Rattle.mm_bit_set.specs.BitSet.{has}
-use Rattle.mm_settled.specs.Calls.{OthersKeepVerdicts}
 use Rattle.mm_manager.specs.LockState.{LockState}
 use Rattle.mm_manager.specs.Calls.{Begins, LocksName, TriesName, Requests, Tries, UnlocksName, Commits, Aborts, Cancels}
 use Rattle.mm_manager.specs.Permit.{may_request}
-use Rattle.mm_manager.specs.Totals.{after_begin, after_lock, after_unlock, after_commit, after_abort, after_cancel}
+use Rattle.mm_manager.specs.Totals.{after_begin, after_lock, after_commit, after_abort, after_cancel}
 use Rattle.mm_manager.specs.declared.refusal.Refusal.{Refusal}
-use Rattle.mm_manager.specs.declared.reply.Abort as abort
-use Rattle.mm_manager.specs.declared.reply.Cancel as cancel
 use Rattle.mm_manager.specs.declared.reply.Lock.{Lock}
 use Rattle.mm_manager.specs.declared.reply.TryLock.{TryLock}
 
@@ -21,34 +17,28 @@ pub record Locked (old : LockState) (k : Key) (name : List ℕ) (answer : Result
   pub locks : LocksName old k name answer new
   pub may : OnOk answer (may_request old.table old.names.name_bytes k name ≡ Ok tt)
   pub step : IfOk answer (λ lock. Requests old.table old.names k name lock new.table new.names)
-  pub others : OthersKeepVerdicts old.table new.table k.process
-  pub due : new.due ≡ old.due
   pub granted : new.granted ≡ []
-  pub aborted : new.aborted ≡ []
   pub totals : new.totals ≡ after_lock old.totals answer
 
 pub record Tried (old : LockState) (k : Key) (name : List ℕ) (answer : Result TryLock Refusal) (new : LockState) : Type 0 where
   pub tries : TriesName old k name answer new
   pub may : OnOk answer (may_request old.table old.names.name_bytes k name ≡ Ok tt)
   pub step : IfOk answer (λ tried. Tries old.table old.names k name tried new.table new.names)
-  pub others : OthersKeepVerdicts old.table new.table k.process
-  pub due : new.due ≡ old.due
   pub granted : new.granted ≡ []
-  pub aborted : new.aborted ≡ []
   pub totals : new.totals ≡ old.totals
 
 pub record Unlocked (old : LockState) (k : Key) (name : List ℕ) (answer : Result (Unit {0}) Refusal) (new : LockState) : Type 0 where
   pub unlocks : UnlocksName old k name answer new
-  pub totals : new.totals ≡ after_unlock old.totals answer (length new.aborted)
+  pub totals : new.totals ≡ old.totals
 
 pub record Committed (old : LockState) (k : Key) (answer : Result (Unit {0}) Refusal) (new : LockState) : Type 0 where
   pub commits : Commits old k answer new
-  pub totals : new.totals ≡ after_commit old.totals answer (length new.aborted)
+  pub totals : new.totals ≡ after_commit old.totals answer
 
-pub record Aborted (old : LockState) (k : Key) (answer : Result abort.Abort Refusal) (new : LockState) : Type 0 where
+pub record Aborted (old : LockState) (k : Key) (answer : Result (Unit {0}) Refusal) (new : LockState) : Type 0 where
   pub aborts : Aborts old k answer new
-  pub totals : new.totals ≡ after_abort old.totals answer (length new.aborted)
+  pub totals : new.totals ≡ after_abort old.totals answer
 
-pub record Cancelled (old : LockState) (k : Key) (answer : Result cancel.Cancel Refusal) (new : LockState) : Type 0 where
+pub record Cancelled (old : LockState) (k : Key) (answer : Result (Unit {0}) Refusal) (new : LockState) : Type 0 where
   pub cancels : Cancels old k answer new
-  pub totals : new.totals ≡ after_cancel old.totals answer (has old.due k.process) (length new.aborted)
+  pub totals : new.totals ≡ after_cancel old.totals answer

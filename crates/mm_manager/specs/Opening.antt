@@ -1,5 +1,5 @@
 -- The numbers of an opening.
-use Rattle.std.specs.Prelude.{◌≡◌, ◌⊎◌, ◌<◌, [], false, replicate}
+use Rattle.std.specs.Prelude.{◌≡◌, ◌⊎◌, ◌<◌, []}
 use Rattle.mm_names.specs.Names.{nameless}
 use Rattle.mm_names.specs.declared.config.TheConstants.NamesConfig.{MAX_NAMES, MAX_NAME_BYTES}
 use Rattle.mm_rules.specs.declared.config.Config.{Config}
@@ -18,9 +18,7 @@ abbrev pub opening_state : ManagerConfig → LockState
 opening_state c = record {
   table = opening (table_config c);
   names = nameless c.names c.name_bytes;
-  due = replicate c.transactions false;
   granted = [];
-  aborted = [];
   totals = nothing_counted;
 }
 

@@ -1,19 +1,18 @@
 -- What a call is refused for before the table is asked, in the order of the tests.
-use Rattle.std.specs.Prelude.{ℕ, ◌-◌, ◌/◌, ◌^◌, Bool, true, false, List, length, Option, Some, None, Result, Ok, Err, if◌then◌else◌, nat_eq, nat_lt}
+use Rattle.std.specs.Prelude.{ℕ, ◌-◌, ◌/◌, ◌^◌, Bool, List, length, Option, Some, None, Result, Ok, Err, if◌then◌else◌, nat_eq, nat_lt}
 use Rattle.mm_arena.specs.declared.key.Key.{Key}
-use Rattle.mm_rules.specs.TableState.{TableState, is_live, has_verdict, wait_of}
+use Rattle.mm_rules.specs.TableState.{TableState, is_live, wait_of}
 use Rattle.mm_manager.specs.declared.refusal.Refusal.{Refusal}
-use Rattle.mm_manager.specs.declared.refusal.Refusal.TheVariants.{NoTransaction, MustAbort, Waiting, NameEmpty, NameTooLong, NotWaiting, TransactionsFull, CountsFull}
+use Rattle.mm_manager.specs.declared.refusal.Refusal.TheVariants.{NoTransaction, Waiting, NameEmpty, NameTooLong, NotWaiting, TransactionsFull, CountsFull}
 
--- by what a live transaction waits for, if anything, and whether it has a verdict
-abbrev pub may_ask_in : Option ℕ → Bool → Result (Unit {0}) Refusal
-may_ask_in None verdict = Ok tt
-may_ask_in (Some n) true = Err MustAbort
-may_ask_in (Some n) false = Err Waiting
+-- by what a live transaction waits for, if anything
+abbrev pub may_ask_in : Option ℕ → Result (Unit {0}) Refusal
+may_ask_in None = Ok tt
+may_ask_in (Some n) = Err Waiting
 
 -- the key is live, and its transaction does not wait
 abbrev pub may_ask : TableState → Key → Result (Unit {0}) Refusal
-may_ask s k = if is_live s k then may_ask_in (wait_of s k.process) (has_verdict s k.process) else Err NoTransaction
+may_ask s k = if is_live s k then may_ask_in (wait_of s k.process) else Err NoTransaction
 
 -- the name has from 1 to this many bytes
 abbrev pub may_name : ℕ → List ℕ → Result (Unit {0}) Refusal
@@ -28,14 +27,13 @@ first_refusal (Err refusal) second = Err refusal
 abbrev pub may_ask_for : TableState → ℕ → Key → List ℕ → Result (Unit {0}) Refusal
 may_ask_for s name_bytes k name = first_refusal (may_ask s k) (may_name name_bytes name)
 
-abbrev pub may_cancel_in : Option ℕ → Bool → Result (Unit {0}) Refusal
-may_cancel_in None verdict = Err NotWaiting
-may_cancel_in (Some n) true = Err MustAbort
-may_cancel_in (Some n) false = Ok tt
+abbrev pub may_cancel_in : Option ℕ → Result (Unit {0}) Refusal
+may_cancel_in None = Err NotWaiting
+may_cancel_in (Some n) = Ok tt
 
--- the key is live, and its transaction waits, in no deadlock
+-- the key is live, and its transaction waits
 abbrev pub may_cancel : TableState → Key → Result (Unit {0}) Refusal
-may_cancel s k = if is_live s k then may_cancel_in (wait_of s k.process) (has_verdict s k.process) else Err NoTransaction
+may_cancel s k = if is_live s k then may_cancel_in (wait_of s k.process) else Err NoTransaction
 
 -- if this many events were counted, no transaction begins and no name is asked for: what the table can count beyond is left for the ends of those that are live
 abbrev pub event_limit : ℕ

@@ -2,8 +2,7 @@
 use Rattle.std.specs.Prelude.{◌≡◌, ℕ, ◌-◌, true, false, List, Option, Some, None, Result, Ok, Err, option_map, option_and_then}
 use Rattle.std.specs.List.{filter_map, range_with_len}
 use Rattle.mm_arena.specs.declared.key.Key.{Key}
-use Rattle.mm_bit_set.specs.BitSet.{has}
-use Rattle.mm_rules.specs.TableState.{TableState, key_of, is_live, owner_of, wait_of, has_verdict}
+use Rattle.mm_rules.specs.TableState.{TableState, key_of, is_live, owner_of, wait_of}
 use Rattle.mm_rules.specs.Event.{tenant_of}
 use Rattle.mm_manager.specs.LockState.{LockState}
 use Rattle.mm_manager.specs.declared.config.ManagerConfig.{ManagerConfig}
@@ -21,8 +20,7 @@ pub record IsHeldUp (m : LockState) (p n : ℕ) (h : Key) : Type 0 where
 -- what a live transaction does
 abbrev pub Does : LockState → ℕ → Status → Type 0
 Does m p status.Active = wait_of m.table p ≡ None
-Does m p (status.Waiting n h aborting) = IsHeldUp m p n h × (has_verdict m.table p ≡ false) × (aborting ≡ has m.due p)
-Does m p (status.Deadlock n h) = IsHeldUp m p n h × (has_verdict m.table p ≡ true)
+Does m p (status.Waiting n h) = IsHeldUp m p n h
 
 -- what `status` answers
 abbrev pub HasStatus : LockState → Key → Result Status Refusal → Type 0

@@ -1,62 +1,44 @@
 //! The end of any live transaction.
-ghost use Rattle.std.specs.Prelude.{◌≡◌, Ok, length};
-ghost use Rattle.mm_manager.specs.Calls.{Aborts};
+ghost use Rattle.std.specs.Prelude.{◌≡◌, ◌⊎◌, Ok, false, IfErr, OnOk, OnErr};
+ghost use Rattle.mm_rules.specs.TableState.{is_live};
 ghost use Rattle.mm_manager.specs.Permit.{may_cancel};
-ghost use Rattle.mm_manager.specs.Totals.{after_abort};
-ghost use Rattle.mm_manager.specs.declared.totals.Totals.{Totals as TotalsValue};
-ghost use Rattle.mm_manager.specs.private.Aborts.{AbortsWaiting, seen};
-ghost use Rattle.mm_manager.specs.private.Handed.{AreCleared, AreParts};
+ghost use Rattle.mm_manager.specs.private.Handed.{EndsWaiting, HandsAllOver, IsSound, IsUntouched};
 
 use crate::cancel::take_back;
-use crate::parts::Parts;
-use crate::{Abort, Cancel, Key, Refusal};
-use mm_settled::EndKind;
+use crate::named::NamedTable;
+use crate::{Key, Refusal};
 use mm_table::Mode;
 
-impl Parts {
-    /// Ends any live transaction.
+impl NamedTable {
+    /// Ends any live transaction. One that waits takes back its wait first.
     #[inline(never)]
-    pub fn abort(&mut self, key: Key) -> Result<Abort, Refusal>
-        requires { AreParts self.old }
-        ensures aborts { (before : TotalsValue) → Aborts (seen self.old before) key result (seen self.new (after_abort before result (length self.new.lists.aborted.items))) }
-        ensures parts { AreParts self.new }
+    pub fn abort(&mut self, key: Key) -> Result<(), Refusal>
+        requires { IsSound self.old }
+        ensures ends { OnOk result (HandsAllOver key self.old self.new ⊎ EndsWaiting key self.old self.new) }
+        ensures untouched { OnErr result (IsUntouched self.old self.new) }
+        ensures refused { IfErr result (λ refusal. (is_live self.old.table.table key ≡ false) × (refusal ≡ Refusal.NoTransaction)) }
+        ensures sound { IsSound self.new }
     {
-        self.lists.clear();
-        self.named.table.is_at_rest();
-        let Ok(state) = self.named.table.table().state(key) else {
+        self.table.is_at_rest();
+        let Ok(state) = self.table.table().state(key) else {
             return Err(Refusal::NoTransaction);
         };
         match state.mode {
-            Mode::Active => {
-                self.end(EndKind::Finish, key);
-                Ok(Abort::Done)
-            }
-            Mode::Convicted(_) => {
-                self.end(EndKind::Abort, key);
-                Ok(Abort::Done)
-            }
-            Mode::Waiting(_) => Ok(self.abort_waiting(key)),
+            Mode::Active => self.finish(key),
+            Mode::Waiting(_) | Mode::Convicted(_) => self.end_waiting(key),
         }
+        Ok(())
     }
 
-    /// Ends a transaction that waits in no deadlock: at once if its wait can be taken back, and else as soon as its wait ends.
-    pub fn abort_waiting(&mut self, key: Key) -> Abort
-        requires cleared { AreCleared self.old }
-        requires may { may_cancel self.old.named.table.table key ≡ Ok tt }
-        ensures aborts { AbortsWaiting self.old key result self.new }
-        ensures parts { AreParts self.new }
+    /// Ends a transaction that waits.
+    fn end_waiting(&mut self, key: Key)
+        requires sound { IsSound self.old }
+        requires may { may_cancel self.old.table.table key ≡ Ok tt }
+        ensures ends { EndsWaiting key self.old self.new }
     {
-        self.named.table.is_at_rest();
-        match take_back(&mut self.named.table, key) {
-            Cancel::Withdrawn => {
-                self.lists.due[key.process as usize] = false;
-                self.end(EndKind::Finish, key);
-                Abort::Done
-            }
-            Cancel::Carried => {
-                self.lists.due[key.process as usize] = true;
-                Abort::Later
-            }
-        }
+        self.table.is_at_rest();
+        take_back(&mut self.table, key);
+        self.table.is_at_rest();
+        self.finish(key);
     }
 }

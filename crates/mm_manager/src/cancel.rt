@@ -1,57 +1,41 @@
 //! A wait that is taken back.
-ghost use Rattle.std.specs.Prelude.{◌≡◌, Ok, length};
-ghost use Rattle.mm_bit_set.specs.BitSet.{has};
-ghost use Rattle.mm_manager.specs.Calls.{Cancels};
+ghost use Rattle.std.specs.Prelude.{◌≡◌, Ok, Err, IfErr, OnOk, OnErr};
+ghost use Rattle.mm_settled.specs.Calls.{MadeWithdrawal};
 ghost use Rattle.mm_manager.specs.Permit.{may_cancel};
-ghost use Rattle.mm_manager.specs.Totals.{after_cancel};
-ghost use Rattle.mm_manager.specs.declared.totals.Totals.{Totals as TotalsValue};
-ghost use Rattle.mm_manager.specs.private.Aborts.{TookBack, cancel_of, seen};
-ghost use Rattle.mm_manager.specs.private.Handed.{AreParts};
+ghost use Rattle.mm_manager.specs.private.Handed.{IsSound};
 ghost use Rattle.mm_manager.specs.private.Room.{HasReserve};
 
-use crate::parts::Parts;
+use crate::named::NamedTable;
 use crate::permit::may_cancel;
-use crate::{Abort, Cancel, Key, Refusal};
+use crate::{Key, Refusal};
 use mm_settled::SettledTable;
 
-impl Parts {
-    /// Takes back the wait of a transaction. One whose abort is due ends then.
-    pub fn cancel(&mut self, key: Key) -> Result<Cancel, Refusal>
-        requires { AreParts self.old }
-        ensures cancels { (before : TotalsValue) → Cancels (seen self.old before) key result (seen self.new (after_cancel before result (has self.old.lists.due.items key.process) (length self.new.lists.aborted.items))) }
-        ensures parts { AreParts self.new }
+impl NamedTable {
+    /// Takes back the wait of a transaction.
+    pub fn cancel(&mut self, key: Key) -> Result<(), Refusal>
+        requires { IsSound self.old }
+        ensures made { OnOk result (MadeWithdrawal key self.old.table.table self.new.table.table) }
+        ensures names { self.new.names ≡ self.old.names }
+        ensures table { OnErr result (self.new.table.table ≡ self.old.table.table) }
+        ensures refused { IfErr result (λ refusal. may_cancel self.old.table.table key ≡ Err refusal) }
+        ensures sound { IsSound self.new }
     {
-        self.lists.clear();
-        self.named.table.is_at_rest();
-        may_cancel(self.named.table.table(), key)?;
-        if self.lists.due[key.process as usize] {
-            return Ok(of_abort(self.abort_waiting(key)));
-        }
-        Ok(take_back(&mut self.named.table, key))
+        self.table.is_at_rest();
+        may_cancel(self.table.table(), key)?;
+        take_back(&mut self.table, key);
+        Ok(())
     }
 }
 
-/// Takes back the wait of a transaction that waits in no deadlock, unless the table refuses that: then a victim is ahead, which has yet
-/// to abort.
-pub fn take_back(table: &mut SettledTable, key: Key) -> Cancel
+/// Takes back the wait of a transaction that waits.
+pub fn take_back(table: &mut SettledTable, key: Key)
     requires may { may_cancel table.old.table key ≡ Ok tt }
     requires left { HasReserve table.old.table }
-    ensures took_back { TookBack table.old.table key result table.new.table }
+    ensures made { MadeWithdrawal key table.old.table table.new.table }
     ensures left { HasReserve table.new.table }
 {
     table.is_at_rest();
-    match table.withdraw(key) {
-        Ok(()) => Cancel::Withdrawn,
-        Err(_) => Cancel::Carried,
-    }
-}
-
-/// Returns what a cancel answers whose abort had this answer.
-fn of_abort(answer: Abort) -> Cancel
-    ensures { result ≡ cancel_of answer }
-{
-    match answer {
-        Abort::Done => Cancel::Withdrawn,
-        Abort::Later => Cancel::Carried,
-    }
+    let Ok(()) = table.withdraw(key) else {
+        unreachable!();
+    };
 }

@@ -4,10 +4,7 @@
 //! - `permit`: what a call is refused for before the table is asked.
 //! - `numbers`: a number has a name exactly while it has an owner.
 //! - `named`: a table whose resources have names.
-//! - `due`: the ends of those whose abort comes due in a call.
-//! - `lists`: what the last call told, and whose abort is due.
-//! - `open`: the parts of a manager that is opened.
-//! - `parts`: the parts of a manager, and what several calls do with them.
+//! - `open`: the table and the names of a manager that is opened.
 //! - `begin`, `lock`, `try_lock`, `unlock`, `commit`, `abort`, `cancel`: the calls, over these.
 //! - `manager`: `LockManager`, with one method for each call.
 //! - `reads`: what can be read of a manager.
@@ -20,15 +17,12 @@ mod begin;
 mod cancel;
 mod commit;
 mod config;
-mod due;
 mod graph;
-mod lists;
 mod lock;
 mod manager;
 mod named;
 mod numbers;
 mod open;
-mod parts;
 mod permit;
 mod reads;
 mod refusal;
@@ -43,6 +37,6 @@ pub use graph::Graph;
 pub use manager::LockManager;
 pub use mm_settled::{Grant, Key};
 pub use refusal::{OpenError, Refusal};
-pub use reply::{Abort, Cancel, Lock, Status, TryLock, Wait};
+pub use reply::{Lock, Status, TryLock, Wait};
 pub use totals::Totals;
 pub use transactions::Transactions;

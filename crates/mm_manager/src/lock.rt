@@ -1,56 +1,34 @@
 //! A request for a name.
 ghost use Rattle.std.specs.Prelude.{◌≡◌, Some, None, Ok, true, IfOk, IfErr, OnOk, IsSome, ◌≢◌, ◌<◌, ◌↔◌, false};
 ghost use Rattle.mm_manager.specs.Permit.{may_ask, event_limit, may_wait};
-ghost use Rattle.mm_manager.specs.private.Handed.{AreCleared, AreParts};
+ghost use Rattle.mm_manager.specs.private.Handed.{IsSound};
 ghost use Rattle.mm_manager.specs.private.Room.{HasReserve};
 ghost use Rattle.std.specs.Bool.{OnTrue, OnFalse};
 ghost use Rattle.mm_arena.specs.declared.key.Key.{Key as KeyValue};
 ghost use Rattle.mm_names.specs.Names.{name_of};
 ghost use Rattle.mm_rules.specs.TableState.{owner_of};
-ghost use Rattle.mm_settled.specs.Calls.{OthersKeepVerdicts, Locks};
+ghost use Rattle.mm_settled.specs.Calls.{Locks};
 ghost use Rattle.mm_settled.specs.declared.reply.Locked.TheVariants as locked;
 ghost use Rattle.mm_manager.specs.private.Numbers.{AreNumbered};
 ghost use Rattle.mm_manager.specs.private.Requests.{Requested, AnswersNamed, AnswersNew, may_ask_more};
-ghost use Rattle.mm_rules.specs.Laws.{Laws};
 
 use crate::named::NamedTable;
 use crate::numbers::{entry_of, owner_of};
-use crate::parts::Parts;
 use crate::permit::{may_ask, may_count, may_wait, refused_first, why_refused};
 use crate::{Key, Lock, Refusal};
 use mm_names::Entry;
 use mm_settled::{Locked, SettledTable, Table};
 
-impl Parts {
-    /// Asks for a name. If `is_active`, the transaction is known to be active, and its key is not tested.
-    // In place, as all of a request is that is granted: what is told of it then stays in registers.
-    #[inline(always)]
-    pub fn lock(&mut self, key: Key, name: &[u8], is_active: bool) -> Result<Lock, Refusal>
-        requires parts { AreParts self.old }
-        requires known { OnTrue is_active (may_ask self.old.named.table.table key ≡ Ok tt) }
-        ensures requested { Requested self.old.named.table.table self.old.named.names key name.now result self.new.named.table.table self.new.named.names }
-        ensures others { OthersKeepVerdicts self.old.named.table.table self.new.named.table.table key.process }
-        ensures laws { Laws self.old.named.table.table × Laws self.new.named.table.table }
-        ensures cleared { AreCleared self.new }
-        ensures due { self.new.lists.due ≡ self.old.lists.due }
-    {
-        self.lists.clear();
-        self.named.table.is_at_rest();
-        self.named.request(key, name, is_active)
-    }
-}
-
 impl NamedTable {
     /// Asks the table for the number of a name, which the name has already, or gets. Nobody owns a number whose name is new, so the table
     /// is asked at once, and what would refuse the request is looked for only if the table refuses it. If `is_active`, the transaction is
     /// known to be active, and its key is not tested.
+    // In place, as all of a request is that is granted: what is told of it then stays in registers.
     #[inline(always)]
-    pub fn request(&mut self, key: Key, name: &[u8], is_active: bool) -> Result<Lock, Refusal>
+    pub fn lock(&mut self, key: Key, name: &[u8], is_active: bool) -> Result<Lock, Refusal>
+        requires sound { IsSound self.old }
         requires known { OnTrue is_active (may_ask self.old.table.table key ≡ Ok tt) }
-        requires numbered { AreNumbered self.old.table.table self.old.names }
-        requires left { HasReserve self.old.table.table }
         ensures requested { Requested self.old.table.table self.old.names key name.now result self.new.table.table self.new.names }
-        ensures others { OthersKeepVerdicts self.old.table.table self.new.table.table key.process }
         ensures numbered { AreNumbered self.new.table.table self.new.names }
     {
         self.table.is_at_rest();
@@ -70,7 +48,6 @@ impl NamedTable {
         requires free { owner_of self.old.table.table number ≡ None }
         requires named { IsSome (name_of self.old.names number) }
         ensures answers { AnswersNew self.old.table.table key number self.old.names result self.new.table.table self.new.names }
-        ensures others { OthersKeepVerdicts self.old.table.table self.new.table.table key.process }
     {
         if is_granted(&mut self.table, key, number, is_active) {
             return Ok(Lock::Granted);
@@ -89,7 +66,6 @@ fn is_granted(table: &mut SettledTable, key: Key, number: u32, is_active: bool) 
     requires free { owner_of table.old.table number ≡ None }
     ensures granted { OnTrue result ((may_ask_more table.old.table key ≡ Ok tt) × Locks table.old.table key number (Ok locked.Granted) table.new.table) }
     ensures refused { OnFalse result ((may_ask_more table.old.table key ≢ Ok tt) × (table.new.table ≡ table.old.table)) }
-    ensures others { OthersKeepVerdicts table.old.table table.new.table key.process }
 {
     table.is_at_rest();
     if may_ask_now(table.table(), key, is_active).is_err() {
@@ -116,8 +92,7 @@ fn may_ask_now(table: &Table, key: Key, is_active: bool) -> Result<(), Refusal>
 fn request_named(table: &mut SettledTable, key: Key, number: u32) -> Result<Lock, Refusal>
     requires in_range { number < table.old.table.config.resources }
     requires left { HasReserve table.old.table }
-    ensures answers { AnswersNamed table.old.table key number result table.new.table }
-    ensures others { OthersKeepVerdicts table.old.table table.new.table key.process }
+    ensures { AnswersNamed table.old.table key number result table.new.table }
 {
     table.is_at_rest();
     may_ask(table.table(), key)?;
@@ -168,7 +143,6 @@ pub fn lock_number(table: &mut SettledTable, key: Key, number: u32) -> Locked
     requires another { ¬ (owner_of table.old.table number ≡ Some key) }
     requires label { (h : KeyValue) → owner_of table.old.table number ≡ Some h → may_wait table.old.table ≡ true }
     ensures locks { Locks table.old.table key number (Ok result) table.new.table }
-    ensures others { OthersKeepVerdicts table.old.table table.new.table key.process }
 {
     table.is_at_rest();
     let Ok(answer) = table.acquire(key, number) else {

@@ -1,4 +1,4 @@
-//! The parts of a manager that is opened.
+//! The table and the names of a manager that is opened.
 ghost use Rattle.std.specs.Prelude.{◌≡◌, IfOk, IfErr, OnOk};
 ghost use Rattle.mm_names.specs.Names.{nameless};
 ghost use Rattle.mm_rules.specs.TableState.{IsInRange, opening};

@@ -22,8 +22,7 @@ pub fn may_ask(table: &Table, key: Key) -> Result<(), Refusal>
     };
     match state.mode {
         Mode::Active => Ok(()),
-        Mode::Waiting(_) => Err(Refusal::Waiting),
-        Mode::Convicted(_) => Err(Refusal::MustAbort),
+        Mode::Waiting(_) | Mode::Convicted(_) => Err(Refusal::Waiting),
     }
 }
 
@@ -39,7 +38,7 @@ pub fn why_not_asked(table: &Table, key: Key) -> Refusal
     refusal
 }
 
-/// Returns whether a transaction may take back its wait: its key is live, and it waits in no deadlock.
+/// Returns whether a transaction may take back its wait: its key is live, and it waits.
 pub fn may_cancel(table: &Table, key: Key) -> Result<(), Refusal>
     ensures { result ≡ may_cancel table.now key }
 {
@@ -48,8 +47,7 @@ pub fn may_cancel(table: &Table, key: Key) -> Result<(), Refusal>
     };
     match state.mode {
         Mode::Active => Err(Refusal::NotWaiting),
-        Mode::Waiting(_) => Ok(()),
-        Mode::Convicted(_) => Err(Refusal::MustAbort),
+        Mode::Waiting(_) | Mode::Convicted(_) => Ok(()),
     }
 }
 

@@ -1,18 +1,17 @@
 //! What can be read of a manager.
-ghost use Rattle.std.specs.Prelude.{◌≡◌, Some, IsSome, length};
+ghost use Rattle.std.specs.Prelude.{◌≡◌, Some, IsSome};
 ghost use Rattle.mm_rules.specs.TableState.{owner_of};
 ghost use Rattle.mm_manager.specs.Reads.{HasStatus, wait_at};
-ghost use Rattle.mm_manager.specs.private.Reads.{marked};
+ghost use Rattle.mm_manager.specs.private.Reads.{unnamed};
 
 use crate::numbers::owner_of;
 use crate::{Key, Refusal, Status, Wait};
 use mm_settled::Table;
 use mm_table::Mode;
 
-/// Returns what a transaction does. `due` says of each process whether the abort of its transaction is due.
-pub fn status(table: &Table, due: &[bool], key: Key) -> Result<Status, Refusal>
-    requires { length due.now ≡ table.now.config.processes }
-    ensures { HasStatus (marked table.now due.now) key result }
+/// Returns what a transaction does.
+pub fn status(table: &Table, key: Key) -> Result<Status, Refusal>
+    ensures { HasStatus (unnamed table.now) key result }
 {
     table.keeps_laws();
     let Ok(state) = table.state(key) else {
@@ -20,12 +19,7 @@ pub fn status(table: &Table, due: &[bool], key: Key) -> Result<Status, Refusal>
     };
     match state.mode {
         Mode::Active => Ok(Status::Active),
-        Mode::Waiting(number) => Ok(Status::Waiting {
-            number,
-            holder: holder(table, number),
-            aborting: due[key.process as usize],
-        }),
-        Mode::Convicted(number) => Ok(Status::Deadlock {
+        Mode::Waiting(number) | Mode::Convicted(number) => Ok(Status::Waiting {
             number,
             holder: holder(table, number),
         }),

@@ -23,8 +23,6 @@ pub enum OpenError {
 pub enum Refusal {
     #[error("the key is of no live transaction")]
     NoTransaction,
-    #[error("the transaction is in a deadlock and is to be aborted")]
-    MustAbort,
     #[error("the transaction waits")]
     Waiting,
     #[error("the name has no bytes")]

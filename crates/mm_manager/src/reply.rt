@@ -8,9 +8,9 @@ pub enum Lock {
     Granted,
     /// The transaction owns the name already.
     Held,
-    /// The transaction waits for the holder, on no cycle of waits. It is never a victim later: it is granted the name, or its wait is taken back.
+    /// The transaction waits for the holder, on no cycle of waits. It is granted the name later, or its wait is taken back.
     Waits { holder: Key },
-    /// The transaction waits for the holder and so closed a cycle of waits. It keeps what it owns until its abort, the one call that it may make.
+    /// The holder owns the name, and waits, directly or over others, for the transaction: its wait would close a cycle of waits. So it does not wait.
     Deadlock { holder: Key },
 }
 
@@ -25,41 +25,13 @@ pub enum TryLock {
     Busy { holder: Key },
 }
 
-/// What an abort is told.
-#[derive(Clone, Copy, Debug, PartialEq, Eq)]
-pub enum Abort {
-    /// The transaction ended.
-    Done,
-    /// The transaction waits, directly or over others, for a victim that has yet to abort. It is aborted in the call that ends its wait.
-    Later,
-}
-
-/// What a cancel is told.
-#[derive(Clone, Copy, Debug, PartialEq, Eq)]
-pub enum Cancel {
-    /// The wait is taken back: the transaction is active, and keeps what it owns. If its abort was due, it ended.
-    Withdrawn,
-    /// The transaction waits, directly or over others, for a victim that has yet to abort, and waits on.
-    Carried,
-}
-
 /// What a transaction does.
 #[derive(Clone, Copy, Debug, PartialEq, Eq)]
 pub enum Status {
     /// It waits for nothing.
     Active,
-    /// It waits for the name of this number, which the holder owns, and is in no deadlock.
-    Waiting {
-        number: u32,
-        holder: Key,
-        /// Its abort is due: it is aborted in the call that ends its wait.
-        aborting: bool,
-    },
-    /// It asked for the name of this number, which the holder owns, and was told of a deadlock.
-    Deadlock {
-        number: u32,
-        holder: Key,
-    },
+    /// It waits for the name of this number, which the holder owns.
+    Waiting { number: u32, holder: Key },
 }
 
 /// An edge of the wait-for graph.

@@ -1,6 +1,6 @@
 //! What a manager counts.
 
-use crate::{Abort, Cancel, Key, Lock, Refusal};
+use crate::{Key, Lock, Refusal};
 
 /// What was counted since the opening.
 #[derive(Clone, Copy, Debug, PartialEq, Eq)]
@@ -9,7 +9,7 @@ pub struct Totals {
     pub begun: u64,
     /// Transactions that were committed.
     pub committed: u64,
-    /// Transactions that were aborted, at once or when their abort came due.
+    /// Transactions that were aborted.
     pub aborted: u64,
     /// Requests that were answered `Deadlock`.
     pub deadlocks: u64,
@@ -21,7 +21,7 @@ pub struct Totals {
 
 impl Totals {
     ghost use Rattle.std.specs.Prelude.{◌≡◌, ◌<◌, ◌^◌};
-    ghost use Rattle.mm_manager.specs.Totals.{all_of, after_begin, after_lock, after_unlock, after_commit, after_abort, after_cancel};
+    ghost use Rattle.mm_manager.specs.Totals.{all_of, after_begin, after_lock, after_commit, after_abort, after_cancel};
 
     /// Nothing was counted.
     pub(crate) const NONE: Totals = Totals {
@@ -53,50 +53,30 @@ impl Totals {
         }
     }
 
-    /// `came_due`: how many aborts came due.
-    pub(crate) fn count_unlock(&mut self, answer: &Result<(), Refusal>, came_due: u64)
-        requires { all_of (after_unlock self.old answer.now came_due) < 2 ^ 64 }
-        ensures { self.new ≡ after_unlock self.old answer.now came_due }
-    {
-        if answer.is_ok() {
-            self.aborted += came_due;
-        }
-    }
-
-    pub(crate) fn count_commit(&mut self, answer: &Result<(), Refusal>, came_due: u64)
-        requires { all_of (after_commit self.old answer.now came_due) < 2 ^ 64 }
-        ensures { self.new ≡ after_commit self.old answer.now came_due }
+    pub(crate) fn count_commit(&mut self, answer: &Result<(), Refusal>)
+        requires { all_of (after_commit self.old answer.now) < 2 ^ 64 }
+        ensures { self.new ≡ after_commit self.old answer.now }
     {
         if answer.is_ok() {
             self.committed += 1;
-            self.aborted += came_due;
         }
     }
 
-    pub(crate) fn count_abort(&mut self, answer: &Result<Abort, Refusal>, came_due: u64)
-        requires { all_of (after_abort self.old answer.now came_due) < 2 ^ 64 }
-        ensures { self.new ≡ after_abort self.old answer.now came_due }
+    pub(crate) fn count_abort(&mut self, answer: &Result<(), Refusal>)
+        requires { all_of (after_abort self.old answer.now) < 2 ^ 64 }
+        ensures { self.new ≡ after_abort self.old answer.now }
     {
-        if let Ok(Abort::Done) = answer {
-            self.aborted += 1 + came_due;
+        if answer.is_ok() {
+            self.aborted += 1;
         }
     }
 
-    /// `was_due`: whether the abort of who cancels was due.
-    pub(crate) fn count_cancel(
-        &mut self,
-        answer: &Result<Cancel, Refusal>,
-        was_due: bool,
-        came_due: u64,
-    )
-        requires { all_of (after_cancel self.old answer.now was_due came_due) < 2 ^ 64 }
-        ensures { self.new ≡ after_cancel self.old answer.now was_due came_due }
+    pub(crate) fn count_cancel(&mut self, answer: &Result<(), Refusal>)
+        requires { all_of (after_cancel self.old answer.now) < 2 ^ 64 }
+        ensures { self.new ≡ after_cancel self.old answer.now }
     {
-        if let Ok(Cancel::Withdrawn) = answer {
+        if answer.is_ok() {
             self.withdrawn += 1;
-            if was_due {
-                self.aborted += 1 + came_due;
-            }
         }
     }
 }

@@ -2,46 +2,37 @@
 ghost use Rattle.std.specs.Prelude.{◌≡◌, Ok, IfOk, IfErr, OnOk, OnErr, ◌<◌};
 ghost use Rattle.mm_manager.specs.Calls.{Tries};
 ghost use Rattle.mm_manager.specs.Permit.{may_ask, may_request, event_limit, may_name};
-ghost use Rattle.mm_manager.specs.private.Handed.{AreCleared, AreParts};
+ghost use Rattle.mm_manager.specs.private.Handed.{IsSound};
 ghost use Rattle.mm_manager.specs.private.Room.{HasReserve};
-ghost use Rattle.mm_settled.specs.Calls.{OthersKeepVerdicts};
 ghost use Rattle.mm_manager.specs.Refused.{TryRefused};
 ghost use Rattle.mm_manager.specs.private.Numbers.{bare, AreNumbered};
 ghost use Rattle.mm_manager.specs.private.Requests.{tried_by};
-ghost use Rattle.mm_rules.specs.Laws.{Laws};
 
 use crate::lock::lock_number;
 use crate::named::NamedTable;
 use crate::numbers::{entry_of, owner_of};
-use crate::parts::Parts;
 use crate::permit::{may_ask, may_count};
 use crate::{Key, Refusal, TryLock};
 
-impl Parts {
+impl NamedTable {
     /// Asks for a name that nobody owns.
     pub fn try_lock(&mut self, key: Key, name: &[u8]) -> Result<TryLock, Refusal>
-        requires { AreParts self.old }
-        ensures tried { IfOk result (λ answer. Tries self.old.named.table.table self.old.named.names key name.now answer self.new.named.table.table self.new.named.names) }
-        ensures may { OnOk result (may_request self.old.named.table.table self.old.named.names.name_bytes key name.now ≡ Ok tt) }
-        ensures refused { IfErr result (λ refusal. TryRefused (bare self.old.named.table.table self.old.named.names) key name.now refusal) }
-        ensures table { OnErr result (self.new.named.table.table ≡ self.old.named.table.table) }
-        ensures names { OnErr result (self.new.named.names ≡ self.old.named.names) }
-        ensures others { OthersKeepVerdicts self.old.named.table.table self.new.named.table.table key.process }
-        ensures laws { Laws self.old.named.table.table }
-        ensures cleared { AreCleared self.new }
-        ensures due { self.new.lists.due ≡ self.old.lists.due }
+        requires { IsSound self.old }
+        ensures tried { IfOk result (λ answer. Tries self.old.table.table self.old.names key name.now answer self.new.table.table self.new.names) }
+        ensures may { OnOk result (may_request self.old.table.table self.old.names.name_bytes key name.now ≡ Ok tt) }
+        ensures refused { IfErr result (λ refusal. TryRefused (bare self.old.table.table self.old.names) key name.now refusal) }
+        ensures table { OnErr result (self.new.table.table ≡ self.old.table.table) }
+        ensures names { OnErr result (self.new.names ≡ self.old.names) }
+        ensures sound { IsSound self.new }
     {
-        self.lists.clear();
-        self.named.table.is_at_rest();
-        may_ask(self.named.table.table(), key)?;
-        may_count(self.named.table.table())?;
-        self.named.try_request(key, name)
+        self.table.is_at_rest();
+        may_ask(self.table.table(), key)?;
+        may_count(self.table.table())?;
+        self.try_request(key, name)
     }
-}
 
-impl NamedTable {
     /// Asks the table for the number of a name that nobody owns. The transaction may ask.
-    pub fn try_request(&mut self, key: Key, name: &[u8]) -> Result<TryLock, Refusal>
+    fn try_request(&mut self, key: Key, name: &[u8]) -> Result<TryLock, Refusal>
         requires numbered { AreNumbered self.old.table.table self.old.names }
         requires may { may_ask self.old.table.table key ≡ Ok tt }
         requires counted { self.old.table.table.totals.accepted < event_limit }
@@ -51,7 +42,6 @@ impl NamedTable {
         ensures refused { IfErr result (λ refusal. TryRefused (bare self.old.table.table self.old.names) key name.now refusal) }
         ensures table { OnErr result (self.new.table.table ≡ self.old.table.table) }
         ensures names { OnErr result (self.new.names ≡ self.old.names) }
-        ensures others { OthersKeepVerdicts self.old.table.table self.new.table.table key.process }
         ensures numbered { AreNumbered self.new.table.table self.new.names }
     {
         self.table.is_at_rest();

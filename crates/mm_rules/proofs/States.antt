@@ -68,3 +68,5 @@ pub mod Rest
 pub mod Renew
 pub mod Withdraw
 pub mod WithdrawLaws
+-- a victim that takes back its wait
+pub mod TakeBack

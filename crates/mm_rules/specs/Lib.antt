@@ -7,5 +7,6 @@ pub mod Laws
 pub mod Victims
 pub mod Rest
 pub mod Withdraw
+pub mod TakeBack
 -- what a table is between the parts of an event, for the contracts of code that keeps a table; no public clause cites these
 pub mod Stages

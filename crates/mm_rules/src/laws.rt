@@ -2,6 +2,7 @@
 ghost use Rattle.mm_rules.specs.Laws.{CountsAreExact, EventsKeepLaws, KeysAreFresh, KeysNeverReturn, LawsAreNotEmpty, OpeningIsLawful, PublicLabelsNeverFall, QuietHasNoCycle, RaisesAreBounded, ReachedIsLawful, SettleEnds, SettleGivesRest, StepsAreDetermined, VerdictsAreSound};
 ghost use Rattle.mm_rules.specs.Rest.{OpeningIsAtRest, RestStays};
 ghost use Rattle.mm_rules.specs.Victims.{CloserIsVictim, NewestCloserIsVictim, OnlyWaitsCloseCycles, OthersHaveNoVictim, VictimIsNewest};
+ghost use Rattle.mm_rules.specs.TakeBack.{CloserIsRefused, ClosesWhereLedBack, RestHasNoCycle, TakeBackKeepsLaws, TakeBackStaysAtRest};
 ghost use Rattle.mm_rules.specs.Withdraw.{CarriedIsBehindVictim, GiveUpIsWithdraw, NoVictimNoCarried, RenewKeepsLaws, WithdrawCounts, WithdrawHasNoVictim, WithdrawKeepsLaws, WithdrawLowersNone, WithdrawStaysAtRest};
 
 /// The state of a table that was just opened keeps all laws, whatever its configuration, as long as that is in range.
@@ -156,4 +157,30 @@ pub fn carried_is_behind_victim()
 /// In a table without victims no withdrawal is refused as `Carried`.
 pub fn no_victim_no_carried()
     ensures { NoVictimNoCarried }
+{}
+
+/// One with a verdict may take back its wait and its verdict, in any state: all laws stay.
+pub fn take_back_keeps_laws()
+    ensures { TakeBackKeepsLaws }
+{}
+
+/// A table at rest stays at rest by that, without a settle.
+pub fn take_back_stays_at_rest()
+    ensures { TakeBackStaysAtRest }
+{}
+
+/// In a table at rest without a verdict nobody waits for itself, directly or over others.
+pub fn rest_has_no_cycle()
+    ensures { RestHasNoCycle }
+{}
+
+/// Who begins to wait closes a cycle of waits exactly if the waits led from its holder to it before.
+pub fn closes_where_led_back()
+    ensures { ClosesWhereLedBack }
+{}
+
+/// If the table is at rest without a verdict, a request closes a cycle, the table is settled, and the requester takes back its wait, then the
+/// table is at rest without a verdict again, and but for labels and counts as it was.
+pub fn closer_is_refused()
+    ensures { CloserIsRefused }
 {}

@@ -6,6 +6,8 @@ pub mod Forms
 pub mod Line
 -- how replies are printed
 pub mod Reply
+-- the reply to a lock, with the cycle of a deadlock
+pub mod Cycle
 -- what a service is answered
 pub mod Text
 -- what a run of a service reads and writes

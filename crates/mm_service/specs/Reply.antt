@@ -1,15 +1,9 @@
 -- How replies are printed.
-use Rattle.std.specs.Prelude.{Bool, true, false, Option, Some, None, unwrap_or, ℕ, List, [], ◌++◌, Result, Ok, Err, codes, decimal}
+use Rattle.std.specs.Prelude.{Option, Some, None, unwrap_or, ℕ, List, [], ◌++◌, Result, Ok, Err, codes, decimal}
 use Rattle.mm_arena.specs.declared.key.Key.{Key}
 use Rattle.mm_arena.specs.Key.{key_text}
 use Rattle.mm_manager.specs.declared.refusal.Refusal.{Refusal}
-use Rattle.mm_manager.specs.declared.refusal.Refusal.TheVariants.{NoTransaction, MustAbort, Waiting, NameEmpty, NameTooLong, NotOwner, NotWaiting, TransactionsFull, NamesFull, LabelsFull, CountsFull}
-use Rattle.mm_manager.specs.declared.reply.Abort as abort
-use Rattle.mm_manager.specs.declared.reply.Abort.TheVariants as aborts
-use Rattle.mm_manager.specs.declared.reply.Cancel as cancel
-use Rattle.mm_manager.specs.declared.reply.Cancel.TheVariants as cancels
-use Rattle.mm_manager.specs.declared.reply.Lock.{Lock}
-use Rattle.mm_manager.specs.declared.reply.Lock.TheVariants as lock
+use Rattle.mm_manager.specs.declared.refusal.Refusal.TheVariants.{NoTransaction, Waiting, NameEmpty, NameTooLong, NotOwner, NotWaiting, TransactionsFull, NamesFull, LabelsFull, CountsFull}
 use Rattle.mm_manager.specs.declared.reply.TryLock.{TryLock}
 use Rattle.mm_manager.specs.declared.reply.TryLock.TheVariants as tried
 use Rattle.mm_manager.specs.declared.reply.Status.{Status}
@@ -24,7 +18,6 @@ line_text text = text ++ codes "\n"
 
 abbrev pub refusal_word : Refusal → List ℕ
 refusal_word NoTransaction = codes "no-transaction"
-refusal_word MustAbort = codes "must-abort"
 refusal_word Waiting = codes "waiting"
 refusal_word NameEmpty = codes "name-empty"
 refusal_word NameTooLong = codes "name-too-long"
@@ -43,12 +36,6 @@ answer_text text (Err refusal) = codes "refused " ++ refusal_word refusal
 abbrev pub begun_text : Key → List ℕ
 begun_text key = codes "begun " ++ key_text key
 
-abbrev pub lock_text : Lock → List ℕ
-lock_text lock.Granted = codes "granted"
-lock_text lock.Held = codes "held"
-lock_text (lock.Waits holder) = codes "waits " ++ key_text holder
-lock_text (lock.Deadlock holder) = codes "deadlock " ++ key_text holder
-
 abbrev pub try_text : TryLock → List ℕ
 try_text tried.Granted = codes "granted"
 try_text tried.Held = codes "held"
@@ -60,13 +47,11 @@ unlocked_text _ = codes "unlocked"
 abbrev pub committed_text : Unit {0} → List ℕ
 committed_text _ = codes "committed"
 
-abbrev pub abort_text : abort.Abort → List ℕ
-abort_text aborts.Done = codes "aborted"
-abort_text aborts.Later = codes "later"
+abbrev pub abort_text : Unit {0} → List ℕ
+abort_text _ = codes "aborted"
 
-abbrev pub cancel_text : cancel.Cancel → List ℕ
-cancel_text cancels.Withdrawn = codes "cancelled"
-cancel_text cancels.Carried = codes "carried"
+abbrev pub cancel_text : Unit {0} → List ℕ
+cancel_text _ = codes "cancelled"
 
 abbrev pub owner_text : Option Key → List ℕ
 owner_text None = codes "free"
@@ -80,12 +65,9 @@ abbrev pub totals_text : Totals → List ℕ
 totals_text totals =
     codes "totals " ++ decimal totals.begun ++ codes " " ++ decimal totals.committed ++ codes " " ++ decimal totals.aborted ++ codes " " ++ decimal totals.deadlocks
 
--- what a request caused for others: this one was granted the name; the abort of that one came due
+-- what a request caused for others: this one was granted the name
 abbrev pub granted_text : Key → List ℕ → List ℕ
 granted_text key name = codes "* granted " ++ key_text key ++ codes " " ++ name
-
-abbrev pub aborted_text : Key → List ℕ
-aborted_text key = codes "* aborted " ++ key_text key
 
 -- a line of the wait-for graph
 abbrev pub edge_text : Key → List ℕ → Key → List ℕ
@@ -95,12 +77,6 @@ edge_text key name holder = codes "* " ++ key_text key ++ wait_text name holder
 abbrev pub name_at : LockState → ℕ → List ℕ
 name_at m n = unwrap_or (name_of m.names n) []
 
--- behind a wait of one whose abort is due
-abbrev pub due_text : Bool → List ℕ
-due_text true = codes " aborting"
-due_text false = []
-
 abbrev pub status_text : LockState → Status → List ℕ
 status_text m status.Active = codes "active"
-status_text m (status.Waiting n holder aborting) = codes "waiting" ++ wait_text (name_at m n) holder ++ due_text aborting
-status_text m (status.Deadlock n holder) = codes "deadlock" ++ wait_text (name_at m n) holder
+status_text m (status.Waiting n holder) = codes "waiting" ++ wait_text (name_at m n) holder

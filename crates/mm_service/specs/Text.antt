@@ -1,5 +1,5 @@
 -- What a service is answered.
-use Rattle.std.specs.Prelude.{◌≡◌, ◌⊎◌, ◌↔◌, ℕ, ◌+◌, Bool, true, false, List, [], ◌∷◌, ◌++◌, length, Option, Some, Result, Ok, Err, codes, decimal, if◌then◌else◌}
+use Rattle.std.specs.Prelude.{◌≡◌, ◌⊎◌, ◌↔◌, ⊤, ℕ, true, false, List, [], ◌∷◌, ◌++◌, length, Option, Some, Result, Ok, Err, codes, decimal}
 use Rattle.std.specs.Cmp.Lexicographic.{slice_cmp}
 use Rattle.std.specs.List.Sorted.{IsPermutation, IsSortedByKey}
 use Rattle.std.specs.Ordering.{nat_cmp}
@@ -12,18 +12,15 @@ use Rattle.mm_manager.specs.LockState.{LockState, Owns, IsLawful}
 use Rattle.mm_manager.specs.Reads.{HasStatus, waits_of}
 use Rattle.mm_manager.specs.declared.refusal.Refusal.{Refusal}
 use Rattle.mm_manager.specs.declared.refusal.Refusal.TheVariants.{NoTransaction}
-use Rattle.mm_manager.specs.declared.reply.Abort as abort
-use Rattle.mm_manager.specs.declared.reply.Abort.TheVariants as aborts
-use Rattle.mm_manager.specs.declared.reply.Cancel as cancel
-use Rattle.mm_manager.specs.declared.reply.Cancel.TheVariants as cancels
 use Rattle.mm_manager.specs.declared.reply.Lock.{Lock}
 use Rattle.mm_manager.specs.declared.reply.Lock.TheVariants as locks
 use Rattle.mm_manager.specs.declared.reply.Status.{Status}
 use Rattle.mm_manager.specs.declared.reply.TryLock.{TryLock}
 use Rattle.mm_manager.specs.declared.reply.Wait.{Wait}
+use Rattle.mm_service.specs.Cycle.{lock_text}
 use Rattle.mm_service.specs.Line.{line_of}
 use Rattle.mm_manager.specs.Made.{Begun, Locked, Tried, Unlocked, Committed, Aborted, Cancelled}
-use Rattle.mm_service.specs.Reply.{line_text, refusal_word, answer_text, begun_text, lock_text, try_text, unlocked_text, committed_text, abort_text, cancel_text, owner_text, totals_text, status_text, granted_text, aborted_text, edge_text, name_at}
+use Rattle.mm_service.specs.Reply.{line_text, refusal_word, answer_text, begun_text, try_text, unlocked_text, committed_text, abort_text, cancel_text, owner_text, totals_text, status_text, granted_text, edge_text, name_at}
 use Rattle.mm_service.specs.declared.requests.KeyRequest.{KeyRequest}
 use Rattle.mm_service.specs.declared.requests.KeyRequest.TheVariants as of_key
 use Rattle.mm_service.specs.declared.effect.Effect.{Effect}
@@ -37,9 +34,9 @@ use Rattle.mm_service.specs.declared.line.Request.TheVariants as requests
 
 -- ---- what a request caused for others
 
--- by a grant a wait ended: its transaction owns the name; or it is live no longer, since its abort was due
+-- a wait ended by a grant: its transaction owns the name
 abbrev pub told_line : LockState → Grant → List ℕ
-told_line m g = if is_live m.table g.key then line_text (granted_text g.key (name_at m g.resource)) else line_text (aborted_text g.key)
+told_line m g = line_text (granted_text g.key (name_at m g.resource))
 
 abbrev pub told_lines : LockState → List Grant → List ℕ
 told_lines m [] = []
@@ -49,38 +46,26 @@ told_lines m (g ∷ gs) = told_line m g ++ told_lines m gs
 abbrev pub told_text : LockState → List ℕ
 told_text m = told_lines m m.granted
 
--- what a request caused beside its reply: whose abort came due by it comes first
+-- what a request caused beside its reply
 abbrev pub effect_text : LockState → Effect → List ℕ
 effect_text m effects.EndedWaits = told_text m
 effect_text m (effects.Ended k) = told_text m
-effect_text m (effects.Aborted k) = line_text (aborted_text k) ++ told_text m
 effect_text m _ = []
 
--- a begin starts a transaction, or is refused
-abbrev pub begin_effect : Result Key Refusal → Effect
-begin_effect (Ok k) = effects.Begun k
-begin_effect (Err refusal) = effects.Nothing
-
--- k closed a cycle of waits, if it was told so
+-- a request of k was refused as a deadlock with h, the owner of the one name that it asked for
 abbrev pub lock_effect : Key → Result Lock Refusal → Effect
-lock_effect k (Ok (locks.Deadlock h)) = effects.Deadlock k
+lock_effect k (Ok (locks.Deadlock h)) = effects.Deadlock k h 0
 lock_effect k _ = effects.Nothing
 
--- k ended by a commit, or the commit is refused
-abbrev pub commit_effect : Key → Result (Unit {0}) Refusal → Effect
-commit_effect k (Ok done) = effects.Ended k
-commit_effect k (Err refusal) = effects.Nothing
+-- k ended, or its end is refused
+abbrev pub end_effect : Key → Result (Unit {0}) Refusal → Effect
+end_effect k (Ok done) = effects.Ended k
+end_effect k (Err refusal) = effects.Nothing
 
--- k ended by an abort, or its abort is due from now on
-abbrev pub abort_effect : Key → Result abort.Abort Refusal → Effect
-abort_effect k (Ok aborts.Done) = effects.Ended k
-abort_effect k (Ok aborts.Later) = effects.Due k
-abort_effect k (Err refusal) = effects.Nothing
-
--- k, whose wait was taken back, is live no longer if its abort was due
-abbrev pub cancel_effect : LockState → Key → Result cancel.Cancel Refusal → Effect
-cancel_effect m k (Ok cancels.Withdrawn) = if is_live m.table k then effects.Nothing else effects.Aborted k
-cancel_effect m k _ = effects.Nothing
+-- no transaction ended
+abbrev pub EndsNobody : Effect → Type 0
+EndsNobody (effects.Ended k) = ⊥
+EndsNobody _ = ⊤
 
 -- ---- what is read
 
@@ -120,20 +105,20 @@ OwnerText m name out = (owner : Option Key) × ((k : Key) → (owner ≡ Some k)
 
 -- a request of a name: the lines of its reply, and what it came to
 abbrev pub RepliesName : NameRequest → Key → List ℕ → LockState → List ℕ → Effect → LockState → Type 0
-RepliesName of_name.Lock k name old reply effect new = (answer : Result Lock Refusal) × Locked old k name answer new × (reply ≡ line_text (answer_text lock_text answer)) × (effect ≡ lock_effect k answer)
+RepliesName of_name.Lock k name old reply effect new = (answer : Result Lock Refusal) × Locked old k name answer new × (reply ≡ line_text (answer_text (lock_text new k) answer)) × (effect ≡ lock_effect k answer)
 RepliesName of_name.Try k name old reply effect new = (answer : Result TryLock Refusal) × Tried old k name answer new × (reply ≡ line_text (answer_text try_text answer)) × (effect ≡ effects.Nothing)
 RepliesName of_name.Unlock k name old reply effect new = (answer : Result (Unit {0}) Refusal) × Unlocked old k name answer new × (reply ≡ line_text (answer_text unlocked_text answer)) × (effect ≡ effects.EndedWaits)
 
 -- a request of a transaction
 abbrev pub RepliesKey : KeyRequest → Key → LockState → List ℕ → Effect → LockState → Type 0
-RepliesKey of_key.Commit k old reply effect new = (answer : Result (Unit {0}) Refusal) × Committed old k answer new × (reply ≡ line_text (answer_text committed_text answer)) × (effect ≡ commit_effect k answer)
-RepliesKey of_key.Abort k old reply effect new = (answer : Result abort.Abort Refusal) × Aborted old k answer new × (reply ≡ line_text (answer_text abort_text answer)) × (effect ≡ abort_effect k answer)
-RepliesKey of_key.Cancel k old reply effect new = (answer : Result cancel.Cancel Refusal) × Cancelled old k answer new × (reply ≡ line_text (answer_text cancel_text answer)) × (effect ≡ cancel_effect new k answer)
+RepliesKey of_key.Commit k old reply effect new = (answer : Result (Unit {0}) Refusal) × Committed old k answer new × (reply ≡ line_text (answer_text committed_text answer)) × (effect ≡ end_effect k answer)
+RepliesKey of_key.Abort k old reply effect new = (answer : Result (Unit {0}) Refusal) × Aborted old k answer new × (reply ≡ line_text (answer_text abort_text answer)) × (effect ≡ end_effect k answer)
+RepliesKey of_key.Cancel k old reply effect new = (answer : Result (Unit {0}) Refusal) × Cancelled old k answer new × (reply ≡ line_text (answer_text cancel_text answer)) × (effect ≡ effects.Nothing)
 RepliesKey of_key.Status k old reply effect new = (answer : Result Status Refusal) × HasStatus old k answer × (new ≡ old) × (reply ≡ line_text (answer_text (status_text old) answer)) × (effect ≡ effects.Nothing)
 
 -- a request, of this name if it is of one
 abbrev pub Replies : Request → List ℕ → LockState → List ℕ → Effect → LockState → Type 0
-Replies requests.Begin name old reply effect new = (answer : Result Key Refusal) × Begun old answer new × (reply ≡ line_text (answer_text begun_text answer)) × (effect ≡ begin_effect answer)
+Replies requests.Begin name old reply effect new = (answer : Result Key Refusal) × Begun old answer new × (reply ≡ line_text (answer_text begun_text answer)) × (effect ≡ effects.Nothing)
 Replies (requests.OfName request k) name old reply effect new = RepliesName request k name old reply effect new
 Replies (requests.OfKey request k) name old reply effect new = RepliesKey request k old reply effect new
 Replies (requests.Holds k) name old reply effect new = HoldsText old k reply × (new ≡ old) × (effect ≡ effects.Nothing)

@@ -2,18 +2,19 @@
 ghost use Rattle.std.specs.Prelude.{◌≡◌, ◌≤◌, ◌+◌, ◌++◌, ℕ, List, MatchResult, OnOk, IsOkUnless};
 ghost use Rattle.arrayvec.specs.ArrayVec.{array_vec_len};
 ghost use Rattle.mm_lines.specs.Output.{Writes};
-ghost use Rattle.mm_service.specs.Text.{AnswersRequest, Replies, RepliesKey, RepliesName, abort_effect, begin_effect, cancel_effect, commit_effect, lock_effect};
+ghost use Rattle.mm_service.specs.Text.{AnswersRequest, EndsNobody, Replies, RepliesKey, RepliesName, end_effect, lock_effect};
 
+use crate::cycle::write_lock;
 use crate::effect::Effect;
 use crate::line::{Asked, Request};
 use crate::lists::{Numbers, write_effect, write_graph, write_holds};
 use crate::reply::{
-    MAX_NAMED, MAX_REPLY, print_abort, print_begun, print_cancel, print_committed, print_lock,
-    print_owner, print_status, print_totals, print_try, print_unlocked,
+    MAX_NAMED, MAX_REPLY, print_abort, print_begun, print_cancel, print_committed, print_owner,
+    print_status, print_totals, print_try, print_unlocked,
 };
 use crate::requests::{KeyRequest, NameRequest};
 use mm_lines::{Fault, OUTPUT_LEN, Output};
-use mm_manager::{Abort, Cancel, Key, Lock, LockManager, Refusal};
+use mm_manager::{Key, Lock, LockManager, Refusal};
 use std::io::Write;
 
 /// Makes a request, and writes its reply and what it caused for others.
@@ -35,7 +36,7 @@ pub fn answer_request<W: Write>(
     }
 }
 
-/// Makes a request, and writes its reply. Returns what else it came to: nothing, if its reply could not be written.
+/// Makes a request, and writes its reply. Returns what else it came to. If its reply could not be written, it ended no transaction.
 pub fn make<W: Write>(
     manager: &mut LockManager,
     numbers: &mut Numbers,
@@ -45,17 +46,16 @@ pub fn make<W: Write>(
 ) -> Result<Effect, Fault>
     requires { array_vec_len output.old + MAX_NAMED ≤ OUTPUT_LEN }
     ensures replies { (text : List ℕ) × (effect : Effect) × (lost : List ℕ) × Replies asked.entry.request asked.entry.name.now manager.old text effect manager.new
-        × Writes (W.contents writer.old) (W.contents writer.new) (output.old.items ++ text) lost × MatchResult result (λ it. (it ≡ effect) × (lost ≡ output.new.items)) (λ _. effect ≡ Effect.Nothing) }
+        × Writes (W.contents writer.old) (W.contents writer.new) (output.old.items ++ text) lost × MatchResult result (λ it. (it ≡ effect) × (lost ≡ output.new.items)) (λ _. EndsNobody effect) }
     ensures fault { IsOkUnless result Fault.Write }
 {
     match asked.request {
         Request::Begin => {
-            let answer = manager.begin();
-            print_begun(output, &answer);
-            Ok(begin_effect(answer))
+            print_begun(output, &manager.begin());
+            Ok(Effect::Nothing)
         }
         Request::OfName(request, key) => {
-            Ok(reply_of_name(manager, request, key, asked.name, output))
+            write_of_name(manager, request, key, asked.name, output, writer)
         }
         Request::OfKey(request, key) => Ok(reply_of_key(manager, request, key, output)),
         Request::Holds(key) => {
@@ -77,40 +77,33 @@ pub fn make<W: Write>(
     }
 }
 
-/// Returns what a begin came to beside its reply.
-fn begin_effect(answer: Result<Key, Refusal>) -> Effect
-    ensures { result ≡ begin_effect answer }
-{
-    match answer {
-        Ok(key) => Effect::Begun(key),
-        Err(_) => Effect::Nothing,
-    }
-}
-
-/// Makes a request of a transaction and a name, and prints its reply. Returns what else it came to.
-fn reply_of_name(
+/// Makes a request of a transaction and a name, and writes its reply. Returns what else it came to.
+fn write_of_name<W: Write>(
     manager: &mut LockManager,
     request: NameRequest,
     key: Key,
     name: &[u8],
     output: &mut Output,
-) -> Effect
+    writer: &mut W,
+) -> Result<Effect, Fault>
     requires { array_vec_len output.old + MAX_REPLY ≤ OUTPUT_LEN }
-    ensures { (reply : List ℕ) × RepliesName request key name.now manager.old reply result manager.new × (output.new.items ≡ output.old.items ++ reply) }
+    ensures replies { (reply : List ℕ) × (effect : Effect) × (lost : List ℕ) × RepliesName request key name.now manager.old reply effect manager.new
+        × Writes (W.contents writer.old) (W.contents writer.new) (output.old.items ++ reply) lost × MatchResult result (λ it. (it ≡ effect) × (lost ≡ output.new.items)) (λ _. EndsNobody effect) }
+    ensures fault { IsOkUnless result Fault.Write }
 {
     match request {
         NameRequest::Lock => {
             let answer = manager.lock(key, name);
-            print_lock(output, &answer);
-            lock_effect(key, &answer)
+            let outcome = write_lock(manager, key, &answer, output, writer);
+            outcome.and(Ok(lock_effect(key, &answer)))
         }
         NameRequest::Try => {
             print_try(output, &manager.try_lock(key, name));
-            Effect::Nothing
+            Ok(Effect::Nothing)
         }
         NameRequest::Unlock => {
             print_unlocked(output, &manager.unlock(key, name));
-            Effect::EndedWaits
+            Ok(Effect::EndedWaits)
         }
     }
 }
@@ -120,7 +113,11 @@ fn lock_effect(key: Key, answer: &Result<Lock, Refusal>) -> Effect
     ensures { result ≡ lock_effect key answer.now }
 {
     match answer {
-        Ok(Lock::Deadlock { .. }) => Effect::Deadlock(key),
+        Ok(Lock::Deadlock { holder }) => Effect::Deadlock {
+            key,
+            holder: *holder,
+            place: 0,
+        },
         Ok(Lock::Granted | Lock::Held | Lock::Waits { .. }) | Err(_) => Effect::Nothing,
     }
 }
@@ -139,17 +136,16 @@ fn reply_of_key(
         KeyRequest::Commit => {
             let answer = manager.commit(key);
             print_committed(output, &answer);
-            commit_effect(key, &answer)
+            end_effect(key, &answer)
         }
         KeyRequest::Abort => {
             let answer = manager.abort(key);
             print_abort(output, &answer);
-            abort_effect(key, &answer)
+            end_effect(key, &answer)
         }
         KeyRequest::Cancel => {
-            let answer = manager.cancel(key);
-            print_cancel(output, &answer);
-            cancel_effect(manager, key, &answer)
+            print_cancel(output, &manager.cancel(key));
+            Effect::Nothing
         }
         KeyRequest::Status => {
             print_status(output, manager, &manager.status(key));
@@ -158,33 +154,12 @@ fn reply_of_key(
     }
 }
 
-/// Returns what a commit came to beside its reply.
-fn commit_effect(key: Key, answer: &Result<(), Refusal>) -> Effect
-    ensures { result ≡ commit_effect key answer.now }
+/// Returns what a commit or an abort came to beside its reply.
+fn end_effect(key: Key, answer: &Result<(), Refusal>) -> Effect
+    ensures { result ≡ end_effect key answer.now }
 {
     match answer {
         Ok(()) => Effect::Ended(key),
         Err(_) => Effect::Nothing,
-    }
-}
-
-/// Returns what an abort came to beside its reply.
-fn abort_effect(key: Key, answer: &Result<Abort, Refusal>) -> Effect
-    ensures { result ≡ abort_effect key answer.now }
-{
-    match answer {
-        Ok(Abort::Done) => Effect::Ended(key),
-        Ok(Abort::Later) => Effect::Due(key),
-        Err(_) => Effect::Nothing,
-    }
-}
-
-/// Returns what a cancel came to beside its reply. The transaction is live no longer exactly if its abort was due.
-fn cancel_effect(manager: &LockManager, key: Key, answer: &Result<Cancel, Refusal>) -> Effect
-    ensures { result ≡ cancel_effect manager.now key answer.now }
-{
-    match answer {
-        Ok(Cancel::Withdrawn) if manager.status(key).is_err() => Effect::Aborted(key),
-        Ok(Cancel::Withdrawn | Cancel::Carried) | Err(_) => Effect::Nothing,
     }
 }

@@ -7,16 +7,11 @@ use mm_manager::Key;
 pub enum Effect {
     /// Nothing.
     Nothing,
-    /// This transaction began.
-    Begun(Key),
-    /// This transaction closed a cycle of waits.
-    Deadlock(Key),
+    /// A request of this transaction was refused, since its wait would have closed a cycle of waits. The holder owns the name that it asked
+    /// for, which stands at this place, from 0, if it asked for several.
+    Deadlock { key: Key, holder: Key, place: u64 },
     /// Waits of others may have ended.
     EndedWaits,
-    /// This transaction ended, as it asked, and waits of others may have ended.
+    /// This transaction ended, and waits of others may have ended.
     Ended(Key),
-    /// The abort of this transaction is due from now on.
-    Due(Key),
-    /// This transaction was aborted, since its abort was due, and waits of others may have ended.
-    Aborted(Key),
 }

@@ -9,7 +9,7 @@ ghost use Rattle.mm_service.specs.Text.{AreHeld, HoldsText, edge_lines, effect_t
 
 use crate::effect::Effect;
 use crate::reply::{
-    MAX_NAMED, MAX_REPLY, end_line, name_at, print_aborted, print_edge, print_granted, print_line,
+    MAX_NAMED, MAX_REPLY, end_line, name_at, print_edge, print_granted, print_line,
 };
 use mm_limits::MAX_NAMES;
 use mm_lines::{Fault, OUTPUT_LEN, Output, make_room, print_number, print_text};
@@ -39,7 +39,7 @@ impl Numbers {
     }
 }
 
-/// Writes what a request caused for others, a line for each wait that it ended, and who was aborted since its abort was due.
+/// Writes what a request caused for others, a line for each wait that it ended.
 pub fn write_effect<W: Write>(
     manager: &LockManager,
     effect: Effect,
@@ -51,13 +51,8 @@ pub fn write_effect<W: Write>(
     ensures fault { IsOkUnless result Fault.Write }
 {
     match effect {
-        Effect::Nothing | Effect::Begun(_) | Effect::Deadlock(_) | Effect::Due(_) => Ok(()),
+        Effect::Nothing | Effect::Deadlock { .. } => Ok(()),
         Effect::EndedWaits | Effect::Ended(_) => write_told(manager, output, writer),
-        Effect::Aborted(key) => {
-            make_room(output, MAX_REPLY, writer)?;
-            print_aborted(output, key);
-            write_told(manager, output, writer)
-        }
     }
 }
 
@@ -78,15 +73,12 @@ fn write_told<W: Write>(
     Ok(())
 }
 
-/// A line about whose wait a grant ended: the name is its own, or its abort was due.
-fn print_told(manager: &LockManager, output: &mut Output, grant: Grant)
+/// A line about a wait that a grant ended.
+pub fn print_told(manager: &LockManager, output: &mut Output, grant: Grant)
     requires { array_vec_len output.old + MAX_NAMED ≤ OUTPUT_LEN }
     ensures { Prints output.old.items (told_line manager.now grant) MAX_NAMED output.new.items }
 {
-    match manager.status(grant.key) {
-        Ok(_) => print_granted(output, grant.key, name_at(manager, grant.resource)),
-        Err(_) => print_aborted(output, grant.key),
-    }
+    print_granted(output, grant.key, name_at(manager, grant.resource));
 }
 
 /// Writes the names that a transaction owns, in the order of their bytes, if it is live.

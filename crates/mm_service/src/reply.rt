@@ -1,12 +1,13 @@
 //! How replies are printed, each with its newline.
 ghost use Rattle.std.specs.Prelude.{◌≡◌, ◌≤◌, ◌+◌, ◌++◌, length, codes};
 ghost use Rattle.arrayvec.specs.ArrayVec.{array_vec_len};
+ghost use Rattle.mm_arena.specs.Key.{key_text};
 ghost use Rattle.mm_lines.specs.Output.{Prints};
-ghost use Rattle.mm_service.specs.Reply.{line_text, answer_text, begun_text, lock_text, try_text, unlocked_text, committed_text, abort_text, cancel_text, owner_text, totals_text, status_text, wait_text, due_text, granted_text, aborted_text, edge_text, refusal_word, name_at};
+ghost use Rattle.mm_service.specs.Reply.{line_text, answer_text, begun_text, try_text, unlocked_text, committed_text, abort_text, cancel_text, owner_text, totals_text, status_text, wait_text, granted_text, edge_text, refusal_word, name_at};
 
 use mm_limits::MAX_NAME_BYTES;
 use mm_lines::{OUTPUT_LEN, Output, print_key, print_number, print_text};
-use mm_manager::{Abort, Cancel, Key, Lock, LockManager, Refusal, Status, Totals, TryLock};
+use mm_manager::{Key, LockManager, Refusal, Status, Totals, TryLock};
 
 /// A line about no name has at most this many bytes, with its newline.
 pub const MAX_REPLY: usize = 128;
@@ -42,6 +43,15 @@ fn print_refused(output: &mut Output, refusal: Refusal)
     print_text(output, word_of(refusal));
 }
 
+/// A line that says why a request was refused.
+pub fn print_refusal(output: &mut Output, refusal: Refusal)
+    requires { array_vec_len output.old + MAX_REPLY ≤ OUTPUT_LEN }
+    ensures { Prints output.old.items (line_text (codes "refused " ++ refusal_word refusal)) MAX_REPLY output.new.items }
+{
+    print_refused(output, refusal);
+    end_line(output);
+}
+
 /// Returns the word that a refusal is printed as.
 pub fn word_of(refusal: Refusal) -> &'static [u8]
     ensures word { result.now ≡ refusal_word refusal }
@@ -49,7 +59,6 @@ pub fn word_of(refusal: Refusal) -> &'static [u8]
 {
     match refusal {
         Refusal::NoTransaction => b"no-transaction",
-        Refusal::MustAbort => b"must-abort",
         Refusal::Waiting => b"waiting",
         Refusal::NameEmpty => b"name-empty",
         Refusal::NameTooLong => b"name-too-long",
@@ -73,17 +82,12 @@ pub fn print_begun(output: &mut Output, answer: &Result<Key, Refusal>)
     end_line(output);
 }
 
-pub fn print_lock(output: &mut Output, answer: &Result<Lock, Refusal>)
+/// A line that says for whom a transaction waits.
+pub fn print_waits(output: &mut Output, holder: Key)
     requires { array_vec_len output.old + MAX_REPLY ≤ OUTPUT_LEN }
-    ensures { Prints output.old.items (line_text (answer_text lock_text answer.now)) MAX_REPLY output.new.items }
+    ensures { Prints output.old.items (line_text (codes "waits " ++ key_text holder)) MAX_REPLY output.new.items }
 {
-    match answer {
-        Ok(Lock::Granted) => print_text(output, b"granted"),
-        Ok(Lock::Held) => print_text(output, b"held"),
-        Ok(Lock::Waits { holder }) => print_key(output, b"waits ", *holder),
-        Ok(Lock::Deadlock { holder }) => print_key(output, b"deadlock ", *holder),
-        Err(refusal) => print_refused(output, *refusal),
-    }
+    print_key(output, b"waits ", holder);
     end_line(output);
 }
 
@@ -122,25 +126,23 @@ pub fn print_committed(output: &mut Output, answer: &Result<(), Refusal>)
     end_line(output);
 }
 
-pub fn print_abort(output: &mut Output, answer: &Result<Abort, Refusal>)
+pub fn print_abort(output: &mut Output, answer: &Result<(), Refusal>)
     requires { array_vec_len output.old + MAX_REPLY ≤ OUTPUT_LEN }
     ensures { Prints output.old.items (line_text (answer_text abort_text answer.now)) MAX_REPLY output.new.items }
 {
     match answer {
-        Ok(Abort::Done) => print_text(output, b"aborted"),
-        Ok(Abort::Later) => print_text(output, b"later"),
+        Ok(()) => print_text(output, b"aborted"),
         Err(refusal) => print_refused(output, *refusal),
     }
     end_line(output);
 }
 
-pub fn print_cancel(output: &mut Output, answer: &Result<Cancel, Refusal>)
+pub fn print_cancel(output: &mut Output, answer: &Result<(), Refusal>)
     requires { array_vec_len output.old + MAX_REPLY ≤ OUTPUT_LEN }
     ensures { Prints output.old.items (line_text (answer_text cancel_text answer.now)) MAX_REPLY output.new.items }
 {
     match answer {
-        Ok(Cancel::Withdrawn) => print_text(output, b"cancelled"),
-        Ok(Cancel::Carried) => print_text(output, b"carried"),
+        Ok(()) => print_text(output, b"cancelled"),
         Err(refusal) => print_refused(output, *refusal),
     }
     end_line(output);
@@ -188,34 +190,14 @@ fn print_wait(output: &mut Output, name: &[u8], holder: Key)
     print_key(output, b" ", holder);
 }
 
-fn print_due(output: &mut Output, is_due: bool)
-    requires { array_vec_len output.old + 9 ≤ OUTPUT_LEN }
-    ensures { Prints output.old.items (due_text is_due) 9 output.new.items }
-{
-    if is_due {
-        print_text(output, b" aborting");
-    }
-}
-
 pub fn print_status(output: &mut Output, manager: &LockManager, answer: &Result<Status, Refusal>)
     requires { array_vec_len output.old + MAX_NAMED ≤ OUTPUT_LEN }
     ensures { Prints output.old.items (line_text (answer_text (status_text manager.now) answer.now)) MAX_NAMED output.new.items }
 {
     match answer {
         Ok(Status::Active) => print_text(output, b"active"),
-        Ok(
-            Status::Waiting {
-                number,
-                holder,
-                aborting,
-            },
-        ) => {
+        Ok(Status::Waiting { number, holder }) => {
             print_text(output, b"waiting");
-            print_wait(output, name_at(manager, *number), *holder);
-            print_due(output, *aborting);
-        }
-        Ok(Status::Deadlock { number, holder }) => {
-            print_text(output, b"deadlock");
             print_wait(output, name_at(manager, *number), *holder);
         }
         Err(refusal) => print_refused(output, *refusal),
@@ -232,15 +214,6 @@ pub fn print_granted(output: &mut Output, key: Key, name: &[u8])
     print_key(output, b"* granted ", key);
     print_text(output, b" ");
     print_line(output, name);
-}
-
-/// A line that says whose abort came due.
-pub fn print_aborted(output: &mut Output, key: Key)
-    requires { array_vec_len output.old + MAX_REPLY ≤ OUTPUT_LEN }
-    ensures { Prints output.old.items (line_text (aborted_text key)) MAX_REPLY output.new.items }
-{
-    print_key(output, b"* aborted ", key);
-    end_line(output);
 }
 
 /// A line of the wait-for graph.

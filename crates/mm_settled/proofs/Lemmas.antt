@@ -16,5 +16,4 @@ pub mod Refused
 pub mod Rest
 pub mod Withdrawn
 pub mod EndsAs
-pub mod EitherEnd
 pub mod Lock

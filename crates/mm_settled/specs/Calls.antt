@@ -1,5 +1,5 @@
 -- What the calls of a settled table do.
-use Rattle.std.specs.Prelude.{ℕ, ◌≡◌, ◌≢◌, ◌⊎◌, ◌↔◌, ◌+◌, ◌^◌, ◌&&◌, Bool, true, false, List, [], None, Result, Ok, Err, IsTrue, MatchBool, nat_lt}
+use Rattle.std.specs.Prelude.{ℕ, ◌≡◌, ◌⊎◌, ◌↔◌, ◌+◌, ◌^◌, ◌&&◌, Bool, true, false, List, [], Some, None, Result, Ok, Err, IsTrue, MatchBool, nat_lt}
 use Rattle.mm_arena.specs.declared.key.Key.{Key}
 use Rattle.mm_label.specs.Label.{Label}
 use Rattle.mm_lists.specs.Members.{Among}
@@ -8,14 +8,13 @@ use Rattle.mm_rules.specs.declared.refusal.Refusal.{Refusal}
 use Rattle.mm_rules.specs.declared.refusal.Refusal.TheVariants.{CountsExhausted}
 use Rattle.mm_rules.specs.declared.reply.Acquired.TheVariants as acquired
 use Rattle.mm_rules.specs.declared.reply.Settled.{Settled}
-use Rattle.mm_rules.specs.TableState.{TableState, has_verdict, wait_of}
-use Rattle.mm_rules.specs.Event.{Event, Acquire, Finish, Abort, Settle, Answer, Step, Opens}
-use Rattle.mm_rules.specs.Victims.{IsOnCycle}
+use Rattle.mm_rules.specs.TableState.{TableState, has_verdict, owner_of, wait_of}
+use Rattle.mm_rules.specs.Event.{Event, Acquire, Settle, Answer, Step, Opens}
+use Rattle.mm_rules.specs.Change.{take_back}
+use Rattle.mm_rules.specs.TakeBack.{LeadsTo, IsSameButLabels}
 use Rattle.mm_rules.specs.Withdraw.{Withdraws}
 use Rattle.mm_settle_lemmas.specs.Touched.{changed_processes}
 use Rattle.mm_settled.specs.SettledState.{SettledState}
-use Rattle.mm_settled.specs.declared.reply.EndKind.{EndKind}
-use Rattle.mm_settled.specs.declared.reply.EndKind.TheVariants as way
 use Rattle.mm_settled.specs.declared.reply.Locked.{Locked}
 use Rattle.mm_settled.specs.declared.reply.Locked.TheVariants.{Granted, Waits, Deadlock}
 
@@ -35,42 +34,31 @@ Rests mid new = (new ≡ mid) ⊎ ((answer : Settled) × Step Settle mid (Ok ans
 abbrev pub NoneWaits : TableState → List ℕ → Type 0
 NoneWaits s ns = (n : ℕ) → Among n ns → wait_of s n ≡ None
 
--- the event is accepted; nothing follows exactly if none of those that it changed waits then, else a settle does; what follows gives no verdict
+-- the event is accepted; nothing follows exactly if none of those that it changed waits then, else a settle does
 pub record Made (e : Event) (old : TableState) (answer : Answer e) (new : TableState) : Type 0 where
   pub room : IsTrue (has_room old)
   pub mid : TableState
   pub event : Step e old (Ok answer) mid
   pub rests : Rests mid new
   pub quiet : (new ≡ mid) ↔ NoneWaits mid (changed_processes old mid)
-  pub verdicts : (v : ℕ) → has_verdict new v ≡ has_verdict mid v
 
 -- a call that makes this event
 abbrev pub Makes : (e : Event) → TableState → Result (Answer e) Refusal → TableState → Type 0
 Makes e old (Ok answer) new = Made e old answer new
 Makes e old (Err refusal) new = Refuses e old refusal new
 
--- a call that ends k in this way
-abbrev pub MakesEnd : EndKind → Key → TableState → Result (Unit {0}) Refusal → TableState → Type 0
-MakesEnd way.Finish k old reply new = Makes (Finish k) old reply new
-MakesEnd way.Abort k old reply new = Makes (Abort k) old reply new
-
--- k withdraws; nothing follows exactly if none of those that it changed waits then, else a settle does; what follows gives no verdict
+-- k withdraws; nothing follows exactly if none of those that it changed waits then, else a settle does
 pub record MadeWithdrawal (k : Key) (old new : TableState) : Type 0 where
   pub room : IsTrue (has_room old)
   pub mid : TableState
   pub event : Withdraws k old (Ok tt) mid
   pub rests : Rests mid new
   pub quiet : (new ≡ mid) ↔ NoneWaits mid (changed_processes old mid)
-  pub verdicts : (v : ℕ) → has_verdict new v ≡ has_verdict mid v
 
 -- a withdrawal of k; a refused one changes nothing: there is no room to count it with a settle, or the table refuses it
 abbrev pub MakesWithdrawal : Key → TableState → Result (Unit {0}) Refusal → TableState → Type 0
 MakesWithdrawal k old (Ok _) new = MadeWithdrawal k old new
 MakesWithdrawal k old (Err refusal) new = (new ≡ old) × MatchBool (has_room old) (Withdraws k old (Err refusal) old) (refusal ≡ CountsExhausted)
-
--- nobody but n, the process of the caller, gets or loses a verdict
-abbrev pub OthersKeepVerdicts : TableState → TableState → ℕ → Type 0
-OthersKeepVerdicts old new n = (v : ℕ) → v ≢ n → has_verdict new v ≡ has_verdict old v
 
 -- ---- acquire
 
@@ -83,12 +71,23 @@ pub record WaitsFrom (old : TableState) (k : Key) (r : ℕ) (h : Key) (new : Tab
   pub event : Step (Acquire k r) old (Ok (acquired.Waits h label)) mid
   pub settle : Step Settle mid (Ok answer) new
 
--- the request is granted; or k waits on no cycle, and has no verdict; or it waits on a cycle, and has one; or nothing changes, and the table refuses it, or
+-- h owns r, and the waits lead from h to k: so k would close a cycle. It began to wait, the settle gave it a verdict, and it took back its wait; but for labels and counts
+-- all is as before
+pub record Declines (old : TableState) (k : Key) (r : ℕ) (h : Key) (new : TableState) : Type 0 where
+  pub owner : owner_of old r ≡ Some h
+  pub closes : LeadsTo old h.process k.process
+  pub settled : TableState
+  pub waited : WaitsFrom old k r h settled
+  pub verdict : IsTrue (has_verdict settled k.process)
+  pub back : new ≡ take_back settled k.process
+  pub same : IsSameButLabels old new
+
+-- the request is granted; or k waits, and closes no cycle by that; or it would close one, and does not wait; or nothing changes, and the table refuses it, or
 -- has no room to count it with a settle
 abbrev pub Locks : TableState → Key → ℕ → Result Locked Refusal → TableState → Type 0
 Locks old k r (Ok Granted) new = Step (Acquire k r) old (Ok acquired.Granted) new
-Locks old k r (Ok (Waits h)) new = WaitsFrom old k r h new × ¬ IsOnCycle new k.process × (has_verdict new k.process ≡ false)
-Locks old k r (Ok (Deadlock h)) new = WaitsFrom old k r h new × IsOnCycle new k.process × (has_verdict new k.process ≡ true)
+Locks old k r (Ok (Waits h)) new = WaitsFrom old k r h new × (owner_of old r ≡ Some h) × ¬ LeadsTo old h.process k.process
+Locks old k r (Ok (Deadlock h)) new = Declines old k r h new
 Locks old k r (Err refusal) new = (new ≡ old) × (Step (Acquire k r) old (Err refusal) old ⊎ ((refusal ≡ CountsExhausted) × (has_room old ≡ false)))
 
 -- the answer is that there is a deadlock

@@ -1,9 +1,12 @@
 //! A request for a lock.
-ghost use Rattle.std.specs.Prelude.{◌≡◌, ◌&&◌, false, not, vec_capacity};
+ghost use Rattle.std.specs.Prelude.{◌≡◌, ◌&&◌, false, not, IsFalse, nat_eq, vec_capacity};
 ghost use Rattle.mm_rules.specs.Event.{Step, Settle, counts_exhausted};
 ghost use Rattle.mm_rules.specs.Laws.{AtRest};
-ghost use Rattle.mm_settled.specs.Calls.{has_room, Locks, OthersKeepVerdicts};
-ghost use Rattle.mm_settled.specs.private.Told.{GrantsNothing, told_by, is_owned};
+ghost use Rattle.mm_rules.specs.TableState.{TableState};
+ghost use Rattle.mm_rules.specs.TakeBack.{HasNoVictim};
+ghost use Rattle.mm_rules.specs.declared.reply.Settled.{Settled as SettledValue};
+ghost use Rattle.mm_settled.specs.Calls.{has_room, Locks};
+ghost use Rattle.mm_settled.specs.private.Told.{GrantsNothing, MayTakeBack, ToldBy, is_owned};
 
 use crate::settle::{has_room, settle};
 use crate::{Grant, Key, Locked, Refusal, Table};
@@ -12,8 +15,8 @@ use mm_table::Acquired;
 /// If no count is this or more, many more events can be counted.
 const FAR_BELOW_LIMIT: u64 = 1 << 61;
 
-/// Asks for the resource, and settles the table if the transaction waits. A refusal empties the list of grants. An accepted request leaves
-/// it as it is: the table has accepted an event since it was filled, so it means nothing.
+/// Asks for the resource, and settles the table if the transaction waits. If it closed a cycle by that, it takes back its wait. A refusal
+/// empties the list of grants. An accepted request leaves it as it is: the table has accepted an event since it was filled, so it means nothing.
 #[inline(always)]
 pub fn acquire(
     table: &mut Table,
@@ -22,8 +25,9 @@ pub fn acquire(
     resource: u32,
 ) -> Result<Locked, Refusal>
     requires rest { AtRest table.old }
+    requires none { HasNoVictim table.old }
     ensures locks { Locks table.old key resource result table.new }
-    ensures others { OthersKeepVerdicts table.old table.new key.process }
+    ensures none { HasNoVictim table.new }
     ensures nothing { GrantsNothing table.old table.new granted.new.items }
     ensures config { table.new.config ≡ table.old.config }
     ensures rest { AtRest table.new }
@@ -36,7 +40,7 @@ pub fn acquire(
     }
     match table.acquire(key, resource) {
         Ok(Acquired::Granted) => Ok(Locked::Granted),
-        Ok(Acquired::Waits { holder, .. }) => Ok(settle_waiter(table, holder)),
+        Ok(Acquired::Waits { holder, .. }) => Ok(settle_waiter(table, key, holder)),
         Err(refusal) => {
             granted.clear();
             Err(refusal)
@@ -72,16 +76,18 @@ fn is_owned(table: &Table, resource: u32) -> bool
     matches!(table.owner(resource), Ok(Some(_)))
 }
 
-/// Settles the table once a transaction waits for the holder, and says whether it has a verdict then.
+/// Settles the table once a transaction waits for the holder. If the transaction has a verdict then, it takes back its wait.
 #[inline(never)]
-fn settle_waiter(table: &mut Table, holder: Key) -> Locked
-    requires { counts_exhausted table.old ≡ false }
-    ensures { (answer : _) × Step Settle table.old (Ok answer) table.new × (result ≡ told_by answer holder) }
+fn settle_waiter(table: &mut Table, key: Key, holder: Key) -> Locked
+    requires room { counts_exhausted table.old ≡ false }
+    requires closer { (s : TableState) (answer : SettledValue) → Step Settle table.old (Ok answer) s → IsFalse (nat_eq answer.verdicts 0) → MayTakeBack s key }
+    ensures { (s : TableState) × (answer : SettledValue) × Step Settle table.old (Ok answer) s × ToldBy s answer key holder result table.new }
 {
     let settled = settle(table);
     if settled.verdicts == 0 {
         Locked::Waits { holder }
     } else {
+        table.take_back(key);
         Locked::Deadlock { holder }
     }
 }

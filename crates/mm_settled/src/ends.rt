@@ -1,17 +1,17 @@
 //! The calls by which resources are handed over: a release, and the end of a transaction.
 ghost use Rattle.std.specs.Prelude.{◌≡◌, OnOk};
-ghost use Rattle.mm_rules.specs.Event.{Step, Release};
+ghost use Rattle.mm_rules.specs.Event.{Step, Release, Finish};
 ghost use Rattle.mm_rules.specs.Laws.{AtRest, Laws};
 ghost use Rattle.mm_settle_lemmas.specs.Touched.{changed_processes};
-ghost use Rattle.mm_settled.specs.Calls.{Makes, MakesEnd};
+ghost use Rattle.mm_settled.specs.Calls.{Makes};
 ghost use Rattle.mm_settled.specs.Grants.{grants};
-ghost use Rattle.mm_settled.specs.private.Ends.{EndStep, Ends, ListsOwned};
+ghost use Rattle.mm_settled.specs.private.Ends.{Ends, ListsOwned};
 ghost use Rattle.mm_settled.specs.private.Lists.{Fits};
 
 use crate::lists::{list_given, sort};
 use crate::parts::Parts;
 use crate::settle::{come_to_rest, has_room};
-use crate::{EndKind, Grant, Key, Refusal, Released};
+use crate::{Grant, Key, Refusal, Released};
 
 impl Parts {
     /// Hands the resource over, and settles the table if one of those that this changed waits.
@@ -31,12 +31,12 @@ impl Parts {
         Ok(answer)
     }
 
-    /// Ends a transaction, and settles the table if one of those that this changed waits. What it owned is listed.
+    /// Ends an active transaction, and settles the table if one of those that this changed waits. What it owned is listed.
     #[inline(always)]
-    pub fn end(&mut self, kind: EndKind, key: Key) -> Result<(), Refusal>
+    pub fn finish(&mut self, key: Key) -> Result<(), Refusal>
         requires rest { AtRest self.old.table }
         requires fits { Fits self.old.table.config self.old.lists }
-        ensures makes { MakesEnd kind key self.old.table result self.new.table }
+        ensures makes { Makes (Finish key) self.old.table result self.new.table }
         ensures ends { Ends self.old.table self.new.table key.process self.new.lists }
         ensures owned { OnOk result (ListsOwned self.old.table key self.new.lists.owned.items) }
     {
@@ -45,7 +45,7 @@ impl Parts {
             self.lists.granted.clear();
             return Err(Refusal::CountsExhausted);
         }
-        self.end_listing(kind, key)?;
+        self.finish_listing(key)?;
         come_to_rest(&mut self.table, &self.lists.woken);
         Ok(())
     }
@@ -72,43 +72,23 @@ impl Parts {
     /// Ends a transaction in the table, and lists what it owned, what that grants, and which processes it changes. If it changes nobody, it grants
     /// nothing.
     #[inline(always)]
-    fn end_listing(&mut self, kind: EndKind, key: Key) -> Result<(), Refusal>
+    fn finish_listing(&mut self, key: Key) -> Result<(), Refusal>
         requires laws { Laws self.old.table }
         requires fits { Fits self.old.table.config self.old.lists }
-        ensures step { EndStep kind key self.old.table result self.new.table }
+        ensures step { Step (Finish key) self.old.table result self.new.table }
         ensures granted { self.new.lists.granted.items ≡ grants self.old.table self.new.table }
         ensures woken { self.new.lists.woken.items ≡ changed_processes self.old.table self.new.table }
         ensures fits { Fits self.old.table.config self.new.lists }
         ensures owned { OnOk result (ListsOwned self.old.table key self.new.lists.owned.items) }
     {
         self.lists.granted.clear();
-        self.end_waking(kind, key)?;
+        self.table
+            .finish_listing(key, &mut self.lists.owned, &mut self.lists.woken)?;
         if self.lists.woken.is_empty() {
             return Ok(());
         }
         sort(&mut self.lists.resources, &mut self.lists.owned);
         list_given(&self.table, &self.lists.owned, &mut self.lists.granted);
         Ok(())
-    }
-
-    /// Ends a transaction in the table by a finish or an abort, and lists what it owned and the processes to wake.
-    #[inline(always)]
-    fn end_waking(&mut self, kind: EndKind, key: Key) -> Result<(), Refusal>
-        requires { Fits self.old.table.config self.old.lists }
-        ensures step { EndStep kind key self.old.table result self.new.table }
-        ensures woken { self.new.lists.woken.items ≡ changed_processes self.old.table self.new.table }
-        ensures owned { OnOk result (ListsOwned self.old.table key self.new.lists.owned.items) }
-        ensures fits { Fits self.old.table.config self.new.lists }
-        ensures granted { self.new.lists.granted ≡ self.old.lists.granted }
-    {
-        match kind {
-            EndKind::Finish => self
-                .table
-                .finish_listing(key, &mut self.lists.owned, &mut self.lists.woken),
-            EndKind::Abort => {
-                self.table.owned_by(key, &mut self.lists.owned);
-                self.table.abort_waking(key, &mut self.lists.woken)
-            }
-        }
     }
 }

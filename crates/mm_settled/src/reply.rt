@@ -5,9 +5,9 @@ use mm_table::Key;
 pub enum Locked {
     /// The resource was free, and the transaction owns it now.
     Granted,
-    /// The transaction waits for the holder, on no cycle of waits. No later call of another one gives it a verdict.
+    /// The transaction waits for the holder, on no cycle of waits.
     Waits { holder: Key },
-    /// The transaction waits for the holder and so closed a cycle of waits. It has the verdict of that cycle: it is the one to abort.
+    /// The holder waits, directly or over others, for the transaction, so its wait would close a cycle of waits. It does not wait.
     Deadlock { holder: Key },
 }
 
@@ -16,13 +16,4 @@ pub enum Locked {
 pub struct Grant {
     pub key: Key,
     pub resource: u32,
-}
-
-/// How a call ends a transaction.
-#[derive(Clone, Copy, Debug, PartialEq, Eq)]
-pub enum EndKind {
-    /// A finish, of an active transaction.
-    Finish,
-    /// An abort, of the victim of a deadlock.
-    Abort,
 }

@@ -1,23 +1,22 @@
 ghost use Rattle.std.specs.Prelude.{◌≡◌, ◌↔◌, ◌<◌, ◌^◌, ℕ, List, [], Some, None, Ok, Err, IsTrue, OnOk};
-ghost use Rattle.mm_rules.specs.Event.{Step, Begin, Release, Finish, Abort, allowed, resource_tests};
+ghost use Rattle.mm_rules.specs.Event.{Step, Begin, Release, Finish, allowed, resource_tests};
 ghost use Rattle.mm_settled.specs.declared.reply.Locked.TheVariants as Locked;
 ghost use Rattle.mm_lists.specs.Members.{Among, NoRepeat};
-ghost use Rattle.mm_rules.specs.TableState.{has_verdict, owner_of};
+ghost use Rattle.mm_rules.specs.TableState.{owner_of};
 ghost use Rattle.mm_rules.specs.Laws.{Laws, AtRest};
-ghost use Rattle.mm_rules.specs.Victims.{IsOnCycle};
-ghost use Rattle.mm_rules.specs.Withdraw.{IsBehindVictim};
-ghost use Rattle.mm_settled.specs.Calls.{OpensSettled, Locks, IsDeadlock, Makes, MakesEnd, MakesWithdrawal, OthersKeepVerdicts};
+ghost use Rattle.mm_rules.specs.TakeBack.{HasNoVictim, NobodyWaitsForItself, WouldClose};
+ghost use Rattle.mm_settled.specs.Calls.{OpensSettled, Locks, IsDeadlock, Makes, MakesWithdrawal};
 ghost use Rattle.mm_settled.specs.Grants.{Tells, EndsWaits};
 
 use crate::acquire::acquire;
 use crate::lists::{Lists, is_told};
 use crate::parts::Parts;
-use crate::{Config, EndKind, Grant, Key, Locked, Refusal, Released, Table};
+use crate::{Config, Grant, Key, Locked, Refusal, Released, Table};
 use std::alloc::Global;
 use std::marker::Model;
 
-/// A table of exclusive locks that is at rest between its calls: nothing is left to transmit or to detect, and one verdict stands on
-/// each cycle of waits.
+/// A table of exclusive locks that is at rest between its calls, and in which nobody waits for itself, directly or over others: nothing is left
+/// to transmit or to detect, and no verdict stands.
 ///
 /// A contract sees it as a `SettledState`: the table, and the grants of the last call. After a call that is refused that list is
 /// empty, and the table is as it was. No call but `open` takes memory.
@@ -72,8 +71,7 @@ impl SettledTable {
     #[inline]
     pub fn begin(&mut self) -> Result<Key, Refusal>
         ensures step { Step Begin self.old.table result self.new.table }
-        ensures others { (v : ℕ) → has_verdict self.new.table v ≡ has_verdict self.old.table v }
-        ensures told { Tells self.old.table self.new }
+        ensures told { self.new.granted ≡ [] }
     {
         self.parts.table.keeps_laws();
         match self.parts.table.begin() {
@@ -88,21 +86,21 @@ impl SettledTable {
     /// Asks for a resource, and is told at once what comes of it.
     ///
     /// - `Granted`: nobody owned it, and the transaction does now.
-    /// - `Waits`: the transaction waits for the holder, last in the queue of the resource, and is on no cycle of waits. Nobody has a
-    ///   new verdict, and it gets none by any later call of others. It owns the resource once a call lists it in `granted`.
-    /// - `Deadlock`: the transaction waits for the holder, and closed a cycle of waits by that. It has the verdict of that cycle, and
-    ///   nobody else has a new one. It keeps what it owns and goes on by `abort` alone.
+    /// - `Waits`: the transaction waits for the holder, last in the queue of the resource, and closes no cycle of waits by that. It owns
+    ///   the resource once a call lists it in `granted`.
+    /// - `Deadlock`: the holder waits, directly or over others, for the transaction, so its wait would close a cycle of waits. It does not
+    ///   wait: but for labels and counts all is as it was.
     ///
     /// Refused as `CountsExhausted` if somebody owns the resource and an event and a settle can no longer be counted, and else as
-    /// `Table::acquire` is: `CountsExhausted`, `Stale`, `NoResource`, `Waiting`, `AlreadyOwns` or `LabelsExhausted`. Constant time if it is granted; a wait costs the settle that
-    /// follows, as `Table::settle` says: those that wait for the transaction, and those whose labels it raises.
+    /// `Table::acquire` is: `CountsExhausted`, `Stale`, `NoResource`, `Waiting`, `AlreadyOwns` or `LabelsExhausted`. Constant time if it is
+    /// granted; a wait and a deadlock cost the settle that follows, as `Table::settle` says: those that wait for the transaction, and those whose
+    /// labels it raises.
     // In place: a granted lock does less than a call from here would cost.
     #[inline(always)]
     pub fn acquire(&mut self, key: Key, resource: u32) -> Result<Locked, Refusal>
         ensures locks { Locks self.old.table key resource result self.new.table }
-        ensures deadlock { OnOk result (IsTrue (IsDeadlock result) ↔ IsOnCycle self.new.table key.process) }
-        ensures others { OthersKeepVerdicts self.old.table self.new.table key.process }
-        ensures told { Tells self.old.table self.new }
+        ensures deadlock { OnOk result (IsTrue (IsDeadlock result) ↔ WouldClose self.old.table key resource) }
+        ensures told { self.new.granted ≡ [] }
     {
         self.parts.table.keeps_laws();
         acquire(
@@ -122,21 +120,19 @@ impl SettledTable {
         requires count { self.old.table.totals.accepted < 2 ^ 62 }
         requires free { owner_of self.old.table resource ≡ None }
         ensures locks { Locks self.old.table key resource (Ok Locked.Granted) self.new.table }
-        ensures others { OthersKeepVerdicts self.old.table self.new.table key.process }
-        ensures told { Tells self.old.table self.new }
+        ensures told { self.new.granted ≡ [] }
     {
         self.parts.table.keeps_laws();
         self.parts.table.grant_free(key, resource);
     }
 
     /// Hands the resource over: the longest waiter owns it from now on and is listed in `granted`, and each other waiter keeps its
-    /// place; with no waiter it is free. If others wait on, the table is settled. Nobody gets a verdict.
+    /// place; with no waiter it is free. If others wait on, the table is settled.
     ///
     /// Refused as `CountsExhausted` if an event and a settle can no longer be counted, and else as `Table::release` is: `Stale`,
     /// `NoResource`, `Waiting`, `NotOwner` or `LabelsExhausted`. `O(waiters of the resource)`, and the settle if one is made.
     pub fn release(&mut self, key: Key, resource: u32) -> Result<Released, Refusal>
         ensures makes { Makes (Release key resource) self.old.table result self.new.table }
-        ensures others { OthersKeepVerdicts self.old.table self.new.table key.process }
         ensures told { Tells self.old.table self.new }
         ensures ended { EndsWaits self.old.table self.new.table key.process self.new.granted }
     {
@@ -146,60 +142,33 @@ impl SettledTable {
     }
 
     /// Ends an active transaction: hands over all that it owns, in ascending order, each resource as `release` does, and frees its process.
-    /// Nobody gets a verdict.
     ///
     /// Refused as `CountsExhausted` if an event and a settle can no longer be counted, and else as `Table::finish` is: `Stale`,
     /// `Waiting` or `LabelsExhausted`. `O(its resources + their waiters)`, and the settle if one is made.
+    #[inline(always)]
     pub fn finish(&mut self, key: Key) -> Result<(), Refusal>
         ensures makes { Makes (Finish key) self.old.table result self.new.table }
-        ensures others { OthersKeepVerdicts self.old.table self.new.table key.process }
-        ensures told { Tells self.old.table self.new }
-        ensures ended { EndsWaits self.old.table self.new.table key.process self.new.granted }
-    {
-        self.end(EndKind::Finish, key)
-    }
-
-    /// Ends a transaction that was told of a deadlock: takes back its wait, and goes on as `finish`. Nobody gets a verdict.
-    ///
-    /// Refused as `CountsExhausted` if an event and a settle can no longer be counted, and else as `Table::abort` is: `Stale`,
-    /// `NoVerdict` or `LabelsExhausted`. `O(its resources + their waiters)`, and the settle if one is made.
-    pub fn abort(&mut self, key: Key) -> Result<(), Refusal>
-        ensures makes { Makes (Abort key) self.old.table result self.new.table }
-        ensures others { OthersKeepVerdicts self.old.table self.new.table key.process }
-        ensures told { Tells self.old.table self.new }
-        ensures ended { EndsWaits self.old.table self.new.table key.process self.new.granted }
-    {
-        self.end(EndKind::Abort, key)
-    }
-
-    /// `finish` of an active transaction or `abort` of a victim. It is refused as that is, and costs what that costs.
-    #[inline(always)]
-    pub fn end(&mut self, kind: EndKind, key: Key) -> Result<(), Refusal>
-        ensures makes { MakesEnd kind key self.old.table result self.new.table }
-        ensures others { OthersKeepVerdicts self.old.table self.new.table key.process }
         ensures told { Tells self.old.table self.new }
         ensures ended { EndsWaits self.old.table self.new.table key.process self.new.granted }
         ensures owned { OnOk result ((r : ℕ) → Among r self.new.ended ↔ (owner_of self.old.table r ≡ Some key)) }
         ensures once { OnOk result (NoRepeat self.new.ended) }
     {
-        let answer = self.parts.end(kind, key);
+        let answer = self.parts.finish(key);
         self.told_at = self.parts.table.totals().accepted;
         answer
     }
 
-    /// Takes back the wait of a transaction that has no verdict, whatever label it shows: it is active from now on, and keeps what it
-    /// owns. Nobody is granted anything, and nobody gets a verdict. If it shows the label with which another transaction waits, that one
-    /// gets a new label, keeps its place in the queue, and the table is settled.
+    /// Takes back the wait of a transaction, whatever label it shows: it is active from now on, and keeps what it owns. Nobody is granted
+    /// anything. If it shows the label with which another transaction waits, that one gets a new label, keeps its place in the queue, and the
+    /// table is settled.
     ///
     /// Refused as `CountsExhausted` if an event and a settle can no longer be counted, and else as `Table::withdraw_waking` is: `Stale`,
-    /// `NotWaiting`, `UnderVerdict`, `Carried` or `LabelsExhausted`. `Carried` means that it waits, directly or over others, for a victim,
-    /// which has yet to abort: with no victim in the table nobody is refused so. Constant time, and one settle if another transaction got
-    /// a new label, which raises those that wait for that one.
+    /// `NotWaiting` or `LabelsExhausted`. Constant time, and one settle if another transaction got a new label, which raises those that wait
+    /// for that one.
     pub fn withdraw(&mut self, key: Key) -> Result<(), Refusal>
         ensures makes { MakesWithdrawal key self.old.table result self.new.table }
-        ensures carried { (result ≡ Err Refusal.Carried) → IsBehindVictim self.old.table key.process }
-        ensures others { (v : ℕ) → has_verdict self.new.table v ≡ has_verdict self.old.table v }
-        ensures told { Tells self.old.table self.new }
+        ensures carried { (result ≡ Err Refusal.Carried) → ⊥ }
+        ensures told { self.new.granted ≡ [] }
     {
         let answer = self.parts.withdraw(key);
         self.told_at = self.parts.table.totals().accepted;
@@ -234,11 +203,13 @@ impl SettledTable {
         &self.parts.table
     }
 
-    /// Does nothing. Its contract is that the table is at rest, whatever was called: nothing is left to transmit or to detect, and one
-    /// verdict stands on each cycle of waits. All laws of `Table` hold too; so each fact of `mm_table::laws` is one about it.
+    /// Does nothing. Its contract is that the table is at rest, whatever was called: nothing is left to transmit or to detect, no verdict
+    /// stands, and nobody waits for itself, directly or over others. All laws of `Table` hold too; so each fact of `mm_table::laws` is one about it.
     pub fn is_at_rest(&self)
         ensures laws { Laws self.now.table }
         ensures rest { AtRest self.now.table }
+        ensures none { HasNoVictim self.now.table }
+        ensures apart { NobodyWaitsForItself self.now.table }
     {
         self.parts.table.keeps_laws();
     }

@@ -1,10 +1,9 @@
 //! A wait that is taken back.
-ghost use Rattle.std.specs.Prelude.{◌≡◌, ℕ, Err};
+ghost use Rattle.std.specs.Prelude.{◌≡◌, ℕ, [], Err};
 ghost use Rattle.mm_rules.specs.TableState.{has_verdict};
 ghost use Rattle.mm_rules.specs.Laws.{AtRest};
 ghost use Rattle.mm_rules.specs.Withdraw.{IsBehindVictim};
 ghost use Rattle.mm_settled.specs.Calls.{MakesWithdrawal};
-ghost use Rattle.mm_settled.specs.Grants.{grants};
 ghost use Rattle.mm_settled.specs.private.Lists.{Fits};
 
 use crate::parts::Parts;
@@ -19,7 +18,7 @@ impl Parts {
         ensures makes { MakesWithdrawal key self.old.table result self.new.table }
         ensures others { (v : ℕ) → has_verdict self.new.table v ≡ has_verdict self.old.table v }
         ensures carried { (result ≡ Err Refusal.Carried) → IsBehindVictim self.old.table key.process }
-        ensures granted { self.new.lists.granted.items ≡ grants self.old.table self.new.table }
+        ensures granted { self.new.lists.granted.items ≡ [] }
         ensures config { self.new.table.config ≡ self.old.table.config }
         ensures rest { AtRest self.new.table }
         ensures fits { Fits self.new.table.config self.new.lists }

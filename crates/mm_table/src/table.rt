@@ -1,7 +1,8 @@
-ghost use Rattle.std.specs.Prelude.{◌≡◌, ◌≢◌, ◌≤◌, ◌<◌, ◌^◌, ◌↔◌, ◌||◌, ℕ, Ok, Some, false, length, replicate, IfOk, IfErr, IfSome, IfNone, None, OnOk, vec_capacity};
+ghost use Rattle.std.specs.Prelude.{◌≡◌, ◌≢◌, ◌≤◌, ◌<◌, ◌^◌, ◌↔◌, ◌||◌, ℕ, Ok, Some, false, IsTrue, length, replicate, IfOk, IfErr, IfSome, IfNone, None, OnOk, vec_capacity};
 ghost use Rattle.mm_lists.specs.Members.{Among, NoRepeat};
 ghost use Rattle.mm_bit_set.specs.BitSet.{has, members};
-ghost use Rattle.mm_rules.specs.TableState.{owner_of, public_of, holder_of, wait_of};
+ghost use Rattle.mm_rules.specs.TableState.{is_live, has_verdict, owner_of, public_of, holder_of, wait_of};
+ghost use Rattle.mm_rules.specs.Change.{take_back};
 ghost use Rattle.mm_rules.specs.Event.{Opens, Step, Begin, Acquire, Release, Finish, Transmit, Detect, Abort, GiveUp, Settle, allowed, resource_tests, state_of, owner_told, tenant_of};
 ghost use Rattle.mm_rules.specs.declared.reply.Acquired.TheVariants as Acquired;
 ghost use Rattle.mm_rules.specs.Laws.{Laws, AtRest, HasSoundVerdicts};
@@ -235,6 +236,18 @@ impl Table {
         let answer = self.records.abort(key, &mut self.sets.touched);
         self.sets.touched.move_all(&mut self.sets.changed, wake);
         answer
+    }
+
+    /// Takes back the wait and the verdict of a transaction that has a verdict: it is active from then on, and keeps what it owns and both its
+    /// labels. It is counted as an abort is, but not as an event, since it is none. Constant time. This rule is not of the algorithm, in which a victim ends.
+    pub fn take_back(&mut self, key: Key)
+        requires live { IsTrue (is_live self.old key) }
+        requires verdict { IsTrue (has_verdict self.old key.process) }
+        requires count { self.old.totals.verdicts ≤ 2 ^ 62 }
+        ensures { self.new ≡ take_back self.old key.process }
+    {
+        self.keeps_laws();
+        self.records.let_go_on(key, &mut self.sets.changed);
     }
 
     /// Takes back the wait of a transaction that has no verdict and whose private and public label are equal: it is active from now on,

@@ -11,11 +11,6 @@ use Rattle.mm_manager.specs.declared.refusal.Refusal.{Refusal}
 use Rattle.mm_lists.specs.Members.{Among, NoRepeat}
 use Rattle.mm_names.specs.Names.{name_of}
 use Rattle.mm_rules.specs.TableState.{owner_of}
-use Rattle.mm_manager.specs.Reads.{HasStatus}
-use Rattle.mm_manager.specs.declared.reply.Status.{Status}
-use Rattle.mm_manager.specs.declared.reply.Status.TheVariants as status
-use Rattle.mm_manager.specs.declared.reply.Cancel.{Cancel}
-use Rattle.mm_manager.specs.declared.reply.Cancel.TheVariants.{Withdrawn}
 use Rattle.mm_locks.specs.Errors.{Because, error_of}
 use Rattle.mm_locks.specs.declared.error.LockError.{LockError}
 use Rattle.mm_locks.specs.declared.error.LockError.TheVariants.{Deadlock, NotActive, TimedOut}
@@ -24,7 +19,7 @@ use Rattle.mm_thin_locks.specs.declared.hall.TheConstants.{PORTION}
 use Rattle.mm_thin_locks.specs.declared.hall.Outcome.{Outcome}
 use Rattle.mm_thin_locks.specs.declared.hall.Outcome.TheVariants as outcome
 
--- a request: the transaction owns the name; or it waits, on no cycle of waits; or a bucket changed; or it closed a cycle, or is refused
+-- a request: the transaction owns the name; or it waits, on no cycle of waits; or a bucket changed; or its wait would close a cycle, or it is refused
 abbrev pub AsksFor : DeskState → WorkerState → List ℕ → Result Outcome LockError → DeskState → Type 0
 AsksFor old w name (Ok (outcome.Owns granted)) new = AsksAt old w name (Ok asked.Granted) new ⊎ AsksAt old w name (Ok asked.Held) new
 AsksFor old w name (Ok outcome.Waits) new = (h : Key) × AsksAt old w name (Ok (asked.Waits h)) new
@@ -73,14 +68,6 @@ CommitsFor old at result new =
 
 -- ---- an end in portions
 
--- what the manager says of the transaction of a worker, if there is one
-abbrev pub StatusAt : DeskState → ℕ → Result Status Refusal → Type 0
-StatusAt d at answer = (k : Key) → slice_get d.keys at ≡ Some k → HasStatus d.manager k answer
-
--- the manager does not say of the transaction of a worker that it is in a deadlock
-abbrev pub IsNoVictim : DeskState → ℕ → Type 0
-IsNoVictim d at = (k : Key) → slice_get d.keys at ≡ Some k → (n : ℕ) (h : Key) → HasStatus d.manager k (Ok (status.Deadlock n h)) → ⊥
-
 -- the desk is asked to hand the name of this number over; or the number has no name, and nothing is done
 abbrev pub HandsNumberOver : DeskState → ℕ → ℕ → DeskState → Type 0
 HandsNumberOver old at number new =
@@ -92,11 +79,10 @@ abbrev pub HandsEachOver : DeskState → ℕ → List ℕ → DeskState → Type
 HandsEachOver old at [] new = new ≡ old
 HandsEachOver old at (number ∷ numbers) new = (mid : DeskState) × HandsNumberOver old at number mid × HandsEachOver mid at numbers new
 
--- the transaction of a worker owns more names in the manager than a portion has, and is in no deadlock; those of the first of their numbers, as listed in no order that is promised, are handed over
+-- the transaction of a worker owns more names in the manager than a portion has; those of the first of their numbers, as listed in no order that is promised, are handed over
 pub record HandsPortionOver (old : DeskState) (at : ℕ) (new : DeskState) : Type 0 where
   pub key : Key
   pub current : slice_get old.keys at ≡ Some key
-  pub free : IsNoVictim old at
   pub numbers : List ℕ  -- of all its names
   pub once : NoRepeat numbers
   pub owned : (n : ℕ) → Among n numbers ↔ (owner_of old.manager.table n ≡ Some key)
@@ -110,4 +96,4 @@ CommitsOrHandsOver old at None new = HandsPortionOver old at new
 
 -- its wait is taken back, or that is refused: `TimedOut` says that it is done
 abbrev pub TakesBack : {T : Type 0} → DeskState → ℕ → Result T LockError → DeskState → Type 0
-TakesBack old at result new = (answer : Result Cancel Refusal) × CancelsAt old at answer new × ((result ≡ Err TimedOut) ↔ (answer ≡ Ok Withdrawn))
+TakesBack old at result new = (answer : Result (Unit {0}) Refusal) × CancelsAt old at answer new × ((result ≡ Err TimedOut) ↔ (answer ≡ Ok tt))

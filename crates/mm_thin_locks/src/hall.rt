@@ -2,17 +2,16 @@
 ghost use Rattle.std.specs.Prelude.{◌≡◌, ◌≢◌, ◌↔◌, ◌<◌, ◌≤◌, [], ℕ, Ok, Some, None, IfErr, IfNone, IfOk, IfSome, IsTrue, length, take};
 ghost use Rattle.std.specs.Bool.{OnFalse, OnTrue};
 ghost use Rattle.mm_bit_set.specs.BitSet.{HasNoneFrom};
-ghost use Rattle.mm_locks.specs.Overdue.{NotesEnd};
-ghost use Rattle.mm_locks.specs.Wakes.{IsToWake};
+ghost use Rattle.mm_locks.specs.Wakes.{IsToWake, Notes, told};
 ghost use Rattle.mm_names.specs.Names.{name_of};
 ghost use Rattle.mm_thin.specs.Calls.{GivesSomeUp};
-ghost use Rattle.mm_thin_locks.specs.Granted.{OwnsAt, OwnsFor};
-ghost use Rattle.mm_thin_locks.specs.Calls.{AsksFor, TriesFor, HandsBack, UnlocksFor, CommitsFor, CommitsOrHandsOver, HandsNumberOver, HandsPortionOver, IsNoVictim, RollsBack, StatusAt, TakesBack, told_of};
+ghost use Rattle.mm_thin_locks.specs.Granted.{IsFor, OwnsAt, OwnsFor};
+ghost use Rattle.mm_thin_locks.specs.Calls.{AsksFor, TriesFor, HandsBack, UnlocksFor, CommitsFor, CommitsOrHandsOver, HandsNumberOver, HandsPortionOver, RollsBack, TakesBack, told_of};
 
 use crate::tokens::Granted;
 use mm_desk::{Asked, Desk, Room, Tried, Unlocked};
 use mm_locks::{LockError, MAX_WAKES, PendingWakes, Wakes, owns};
-use mm_manager::{Cancel, LockManager, Refusal, Status, Totals};
+use mm_manager::{LockManager, Refusal, Status, Totals};
 use mm_names::NamesConfig;
 use mm_thin::{GiveUp, Worker};
 
@@ -117,47 +116,35 @@ impl Hall {
         }
         match self.status(at) {
             Ok(Status::Waiting { .. }) => Ok(Outcome::Waits),
-            Ok(Status::Deadlock { .. }) => Err(LockError::Deadlock),
             Ok(Status::Active) | Err(_) => Err(LockError::NotActive),
         }
     }
 
     /// Returns what the transaction of a worker does.
-    fn status(&self, at: u32) -> Result<Status, Refusal>
-        ensures { StatusAt self.now.desk at result }
-    {
+    fn status(&self, at: u32) -> Result<Status, Refusal> {
         match self.desk.key_of(at) {
             Some(key) => self.desk.manager().status(key),
             None => Err(Refusal::NoTransaction),
         }
     }
 
-    /// Takes back the request of one that waits: `TimedOut` if that is done. Else it owns the name; or it waits on, since a transaction
-    /// ahead was told of a deadlock and has yet to abort, and is overdue from now on.
+    /// Takes back the request of one that waits: `TimedOut` if that is done. Else its wait is over, and it owns the name.
     pub(crate) fn take_back<'n>(
         &mut self,
         at: u32,
         name: &'n [u8],
-        wakes: &mut Wakes,
-    ) -> Result<Outcome<'n>, LockError>
-        ensures granted { IfOk result (OwnsFor at name.now) }
+    ) -> Result<Granted<'n>, LockError>
+        ensures granted { IfOk result (IsFor at name.now) }
         ensures cancels { TakesBack self.old.desk at result self.new.desk }
+        ensures kept { self.new.pending ≡ self.old.pending }
     {
-        let answer = self.desk.cancel(at);
-        self.pending.note_told(wakes, self.desk.manager());
-        if let Ok(Cancel::Withdrawn) = answer {
-            self.pending.note_overdue(wakes);
+        if let Ok(()) = self.desk.cancel(at) {
             return Err(LockError::TimedOut);
         }
-        match self.outcome(at, name)? {
-            Outcome::Owns(granted) => Ok(Outcome::Owns(granted)),
-            Outcome::Waits | Outcome::Again => {
-                if let Some(process) = self.process_of(at) {
-                    self.pending.add_overdue(process);
-                }
-                Ok(Outcome::Waits)
-            }
+        if self.owns(at, name) {
+            return Ok(self.granted(at, name));
         }
+        Err(LockError::NotActive)
     }
 
     /// Gives a name back that a worker could not give back by itself, or had not taken. It may be able to by now: the manager may have refused
@@ -168,12 +155,13 @@ impl Hall {
         name: &[u8],
         wakes: &mut Wakes,
     ) -> Result<(), LockError>
-        ensures noted { NotesEnd self.new.desk.manager wakes.old self.old.pending wakes.new self.new.pending }
+        ensures noted { Notes (told self.new.desk.manager) wakes.old.processes.items self.old.pending.set wakes.new.processes.items self.new.pending.set }
         ensures unlocks { UnlocksFor self.old.desk worker.old.at name.now result self.new.desk }
         ensures in_time { IfErr result (λ error. error ≢ LockError.TimedOut) }
     {
         let answer = self.hand_back(worker, name);
-        self.pending.note_end(wakes, self.desk.manager());
+        self.pending
+            .note_granted(wakes, self.desk.manager().granted());
         done(answer)
     }
 
@@ -216,7 +204,8 @@ impl Hall {
     {
         let answer = self.desk.commit(at, &mut self.room);
         if is_done(&answer) {
-            self.pending.note_end(wakes, self.desk.manager());
+            self.pending
+                .note_granted(wakes, self.desk.manager().granted());
             let _ = self.desk.begin(at);
             return done(answer);
         }
@@ -224,8 +213,8 @@ impl Hall {
         done(answer)
     }
 
-    /// Ends a transaction, be it in a deadlock or not. Returns false if it owns many names in the manager and is in no deadlock: a portion of
-    /// them is handed over, and this is to be called again.
+    /// Rolls a transaction back. Returns false if it owns many names in the manager: a portion of them is handed over, and this is to be called
+    /// again.
     pub(crate) fn roll_back(&mut self, worker: &mut Worker, wakes: &mut Wakes) -> bool
         ensures leaves { GivesSomeUp worker.old worker.new }
         ensures rolls_back { OnTrue result (RollsBack self.old.desk worker.old.at self.new.desk) }
@@ -240,14 +229,14 @@ impl Hall {
         true
     }
 
-    /// Hands a portion of the names over that the transaction of a worker owns in the manager, if it owns more and is in no deadlock. Returns
-    /// whether that is so. The worker has left what it had taken.
+    /// Hands a portion of the names over that the transaction of a worker owns in the manager, if it owns more. Returns whether that is so. The
+    /// worker has left what it had taken.
     fn unlock_portion(&mut self, at: u32, wakes: &mut Wakes) -> bool
         ensures hands { OnTrue result (HandsPortionOver self.old.desk at self.new.desk) }
         ensures none { OnFalse result (self.new.desk ≡ self.old.desk) }
     {
         self.desk.list_owned(at, &mut self.room);
-        if self.room.numbers().len() <= PORTION || self.is_victim(at) {
+        if self.room.numbers().len() <= PORTION {
             return false;
         }
         for k in 0..PORTION {
@@ -267,19 +256,8 @@ impl Hall {
             return;
         };
         let _ = self.desk.unlock(at, &bytes[..length]);
-        self.pending.note_end(wakes, self.desk.manager());
-    }
-
-    /// Returns whether the transaction of a worker is in a deadlock.
-    fn is_victim(&self, at: u32) -> bool
-        ensures { OnFalse result (IsNoVictim self.now.desk at) }
-    {
-        match self.status(at) {
-            Ok(Status::Deadlock { .. }) => true,
-            Ok(Status::Active) => false,
-            Ok(Status::Waiting { .. }) => false,
-            Err(_) => false,
-        }
+        self.pending
+            .note_granted(wakes, self.desk.manager().granted());
     }
 
     /// Aborts the transaction of a worker that has given up what it had, and begins the next one.
@@ -287,7 +265,8 @@ impl Hall {
         ensures { RollsBack self.old.desk at self.new.desk }
     {
         let _ = self.desk.abort(at, &mut self.room);
-        self.pending.note_end(wakes, self.desk.manager());
+        self.pending
+            .note_granted(wakes, self.desk.manager().granted());
         let _ = self.desk.begin(at);
     }
 

@@ -1,9 +1,10 @@
 //! A thread's way to the locks.
-ghost use Rattle.mm_thin_locks.specs.Granted.{OwnsFor};
+ghost use Rattle.mm_thin_locks.specs.Granted.{IsFor, OwnsFor};
 ghost use Rattle.std.specs.Prelude.{◌≢◌, IfErr, IfOk};
 
 use crate::hall::Outcome;
 use crate::locks::ThinLocks;
+use crate::tokens::Granted;
 use crate::transaction::Transaction;
 use mm_locks::{FlaggedParker, LockError, Wakes};
 use mm_thin::Worker;
@@ -60,19 +61,12 @@ impl<'m, R: Wait + Clock> Session<'m, R> {
         self.locks.hall(self.rt).inside().outcome(at, name)
     }
 
-    /// Takes the request back, if that goes, and wakes those whom that concerns.
-    pub(crate) fn take_back<'n>(&self, name: &'n [u8]) -> Result<Outcome<'n>, LockError>
-        ensures granted { IfOk result (OwnsFor self.now.worker.at name.now) }
+    /// Takes the request back: `TimedOut` if that is done. Else it owns the name.
+    pub(crate) fn take_back<'n>(&self, name: &'n [u8]) -> Result<Granted<'n>, LockError>
+        ensures granted { IfOk result (IsFor self.now.worker.at name.now) }
     {
         let at = self.worker.at();
-        let mut wakes = Wakes::new();
-        let answer = self
-            .locks
-            .hall(self.rt)
-            .inside()
-            .take_back(at, name, &mut wakes);
-        self.locks.wake(self.rt, &wakes);
-        answer
+        self.locks.hall(self.rt).inside().take_back(at, name)
     }
 
     /// Where its thread sleeps while its transaction waits.

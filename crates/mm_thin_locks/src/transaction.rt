@@ -11,22 +11,22 @@ use mm_thin::{GiveUp, Take};
 use std::sync::Wait;
 use std::time::Clock;
 
-/// How often the thread of a victim yields its processor when the victim was rolled back. One that began again at once would often close the
-/// same cycle once more, before the others are done.
-const VICTIM_YIELDS: u32 = 256;
+/// How often a thread yields its processor when it has rolled back a transaction that was told `Deadlock`. One that began again at once would
+/// often be told the same, before the others are done.
+const DEADLOCK_YIELDS: u32 = 256;
 
 /// How often a thread looks again whether a name is free before it asks the manager. Before each further time it yields twice as often.
 const LOOKS: u32 = 3;
 
 /// A transaction. If it is dropped it is rolled back: all that it owns is handed over, and the processes that were granted something are
-/// woken. After a deadlock the drop then yields the processor for a while, so that the others come to their ends before the caller begins
-/// again.
+/// woken. If it was told `Deadlock` and has given nothing back since, the drop then yields the processor for a while, so that the others
+/// come to their ends before the caller begins again.
 pub struct Transaction<'s, 'm, R: Wait + Clock> {
     pub(crate) session: &'s mut Session<'m, R>,
     /// Whether the manager may know of it.
     is_known: bool,
-    /// Whether it was told of a deadlock. From then on it takes no name.
-    is_victim: bool,
+    /// Whether it was told `Deadlock` and has given nothing back since.
+    is_in_deadlock: bool,
 }
 
 impl<'s, 'm, R: Wait + Clock> Drop for Transaction<'s, 'm, R> {
@@ -34,11 +34,11 @@ impl<'s, 'm, R: Wait + Clock> Drop for Transaction<'s, 'm, R> {
         let Self {
             session,
             is_known,
-            is_victim,
+            is_in_deadlock,
         } = self;
         session.roll_back(is_known);
-        if is_victim {
-            stay_away(VICTIM_YIELDS);
+        if is_in_deadlock {
+            stay_away(DEADLOCK_YIELDS);
         }
     }
 }
@@ -48,30 +48,23 @@ impl<'s, 'm, R: Wait + Clock> Transaction<'s, 'm, R> {
         Transaction {
             session,
             is_known: false,
-            is_victim: false,
+            is_in_deadlock: false,
         }
-    }
-
-    pub(crate) fn is_victim(&self) -> bool {
-        self.is_victim
     }
 
     /// Locks the name: returns when the transaction owns it, at once if nobody else does, and else it sleeps until it was granted.
     ///
     /// If nobody else owns a name of its bucket, that is one compare-and-swap; a ninth name, and one of more than 63 bytes, is the manager's. If
     /// another one owns it the thread looks some times more, and then waits in the manager; all that the transaction has locked is the manager's
-    /// from then on. `Deadlock` comes at once, if the wait would close a cycle of waits; no other call makes a victim of one that sleeps. The
-    /// transaction is then to be dropped: it keeps what it owns until that, so that its caller can undo what it did, and each further call is
-    /// refused as `Deadlock` too. A name that it owns already is `Ok`, and is owned once. Refused as `Deadlock`,
-    /// `NameEmpty`, `NameTooLong`, `NamesFull`, `CountsFull` or `LabelsFull`, as `LockManager::lock` is.
+    /// from then on. `Deadlock` comes at once, if the wait would close a cycle of waits; one that sleeps is never told of it. The transaction
+    /// does not wait then, and goes on with what it owns. Give back what others wait for before you ask again: `unlock` what was locked since a
+    /// savepoint, or drop the transaction. Until then the answer is the same, and the others on the cycle cannot go on. A name that it owns
+    /// already is `Ok`, and is owned once. Refused as `Deadlock`, `NameEmpty`, `NameTooLong`, `NamesFull`, `CountsFull` or `LabelsFull`.
     #[inline]
     pub fn lock<'n>(&mut self, name: &'n [u8]) -> Result<Granted<'n>, LockError>
         ensures granted { IfOk result (IsFor self.old.session.now.worker.at name.now) }
         ensures in_time { IfErr result (λ error. error ≢ LockError.TimedOut) }
     {
-        if self.is_victim {
-            return Err(LockError::Deadlock);
-        }
         match take_thinly(&mut self.session.worker, name) {
             Ok(granted) => Ok(granted),
             Err(why) => self.lock_slowly(name, why),
@@ -172,20 +165,19 @@ impl<'s, 'm, R: Wait + Clock> Transaction<'s, 'm, R> {
     {
         self.is_known = true;
         let answer = self.session.ask(name);
-        self.is_victim = is_deadlock(&answer);
+        if is_deadlock(&answer) {
+            self.is_in_deadlock = true;
+        }
         answer
     }
 
     /// Locks the name if nobody else owns it, and never sleeps for it. Returns `None` if another transaction owns it.
     ///
-    /// Refused as `Deadlock`, `NameEmpty`, `NameTooLong`, `NamesFull` or `CountsFull`, as `LockManager::try_lock` is.
+    /// Refused as `NameEmpty`, `NameTooLong`, `NamesFull` or `CountsFull`, as `LockManager::try_lock` is.
     pub fn try_lock<'n>(&mut self, name: &'n [u8]) -> Result<Option<Granted<'n>>, LockError>
         ensures granted { IfOk result (λ tried. IfSome tried (IsFor self.old.session.now.worker.at name.now)) }
         ensures in_time { IfErr result (λ error. error ≢ LockError.TimedOut) }
     {
-        if self.is_victim {
-            return Err(LockError::Deadlock);
-        }
         match take_thinly(&mut self.session.worker, name) {
             Ok(granted) => Ok(Some(granted)),
             Err(_) => {
@@ -197,39 +189,35 @@ impl<'s, 'm, R: Wait + Clock> Transaction<'s, 'm, R> {
 
     /// Gives the name back: its longest waiter owns it from now on, and is woken; with no waiter it is free.
     ///
-    /// Refused as `Deadlock`, `NameEmpty`, `NameTooLong` or `NotOwner`, as `LockManager::unlock` is.
+    /// Refused as `NameEmpty`, `NameTooLong` or `NotOwner`, as `LockManager::unlock` is.
     pub fn unlock(&mut self, name: &[u8]) -> Result<(), LockError>
         ensures in_time { IfErr result (λ error. error ≢ LockError.TimedOut) }
     {
-        if self.is_victim {
-            return Err(LockError::Deadlock);
+        match self.session.worker.give_back_name(name) {
+            GiveUp::Done => {}
+            GiveUp::Changed | GiveUp::NotTaken => {
+                self.is_known = true;
+                self.session.unlock(name)?;
+            }
         }
-        if let GiveUp::Done = self.session.worker.give_back_name(name) {
-            return Ok(());
-        }
-        self.is_known = true;
-        self.session.unlock(name)
+        self.is_in_deadlock = false;
+        Ok(())
     }
 
     /// Ends the transaction: all that it owns is handed over, and the processes that were granted something are woken.
-    ///
-    /// A transaction that is in a deadlock is rolled back, and the call is refused as `Deadlock`.
     pub fn commit(self) -> Result<(), LockError>
         ensures in_time { IfErr result (λ error. error ≢ LockError.TimedOut) }
     {
-        if self.is_victim {
-            return Err(LockError::Deadlock);
-        }
         let Self {
             session,
             is_known,
-            is_victim: _,
+            is_in_deadlock: _,
         } = self;
         session.commit(is_known)
     }
 }
 
-/// Whether an answer says that the transaction is in a deadlock.
+/// Whether an answer is that the wait would close a cycle of waits.
 fn is_deadlock(answer: &Result<Outcome<'_>, LockError>) -> bool {
     matches!(answer, Err(LockError::Deadlock))
 }

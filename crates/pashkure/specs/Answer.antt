@@ -3,10 +3,6 @@ use Rattle.std.specs.Prelude.{ℕ, Result, Ok, Err}
 use Rattle.mm_arena.specs.declared.key.Key.{Key}
 use Rattle.mm_manager.specs.declared.refusal.Refusal.{Refusal}
 use Rattle.mm_manager.specs.declared.refusal.Refusal.TheVariants as refused
-use Rattle.mm_manager.specs.declared.reply.Abort as abort
-use Rattle.mm_manager.specs.declared.reply.Abort.TheVariants as aborts
-use Rattle.mm_manager.specs.declared.reply.Cancel as cancel
-use Rattle.mm_manager.specs.declared.reply.Cancel.TheVariants as cancels
 use Rattle.mm_manager.specs.declared.reply.Lock.{Lock}
 use Rattle.mm_manager.specs.declared.reply.Lock.TheVariants as lock
 use Rattle.mm_manager.specs.declared.reply.Status.{Status}
@@ -16,7 +12,6 @@ use Rattle.mm_manager.specs.declared.reply.TryLock.TheVariants as tried
 
 abbrev pub refusal_number : Refusal → ℕ
 refusal_number refused.NoTransaction = 16
-refusal_number refused.MustAbort = 17
 refusal_number refused.Waiting = 18
 refusal_number refused.NotWaiting = 19
 refusal_number refused.NameEmpty = 20
@@ -48,17 +43,6 @@ abbrev pub done_number : Result (Unit {0}) Refusal → ℕ
 done_number (Ok done) = 0
 done_number (Err refusal) = refusal_number refusal
 
-abbrev pub abort_number : Result abort.Abort Refusal → ℕ
-abort_number (Ok aborts.Done) = 0
-abort_number (Ok aborts.Later) = 5
-abort_number (Err refusal) = refusal_number refusal
-
-abbrev pub cancel_number : Result cancel.Cancel Refusal → ℕ
-cancel_number (Ok cancels.Withdrawn) = 0
-cancel_number (Ok cancels.Carried) = 6
-cancel_number (Err refusal) = refusal_number refusal
-
 abbrev pub status_number : Status → ℕ
 status_number status.Active = 0
-status_number (status.Waiting n h aborting) = 2
-status_number (status.Deadlock n h) = 3
+status_number (status.Waiting n h) = 2

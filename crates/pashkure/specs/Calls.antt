@@ -4,11 +4,9 @@ use Rattle.mm_arena.specs.declared.key.Key.{Key}
 use Rattle.mm_manager.specs.LockState.{LockState}
 use Rattle.mm_manager.specs.Made.{Begun, Locked, Tried, Unlocked, Committed, Aborted, Cancelled}
 use Rattle.mm_manager.specs.declared.refusal.Refusal.{Refusal}
-use Rattle.mm_manager.specs.declared.reply.Abort as abort
-use Rattle.mm_manager.specs.declared.reply.Cancel as cancel
 use Rattle.mm_manager.specs.declared.reply.Lock.{Lock}
 use Rattle.mm_manager.specs.declared.reply.TryLock.{TryLock}
-use Rattle.pashkure.specs.Answer.{begin_number, lock_number, try_number, done_number, abort_number, cancel_number}
+use Rattle.pashkure.specs.Answer.{begin_number, lock_number, try_number, done_number}
 use Rattle.pashkure.specs.Owning.{open_word}
 use Rattle.pashkure.specs.Plain.{plain_key}
 use Rattle.pashkure.specs.declared.handle.Handle.{Handle}
@@ -39,7 +37,7 @@ abbrev pub TellsCommit : LockState → Key → ℕ → LockState → Type 0
 TellsCommit old k told new = (answer : Result (Unit {0}) Refusal) × (told ≡ done_number answer) × Committed old k answer new
 
 abbrev pub TellsAbort : LockState → Key → ℕ → LockState → Type 0
-TellsAbort old k told new = (answer : Result abort.Abort Refusal) × (told ≡ abort_number answer) × Aborted old k answer new
+TellsAbort old k told new = (answer : Result (Unit {0}) Refusal) × (told ≡ done_number answer) × Aborted old k answer new
 
 abbrev pub TellsCancel : LockState → Key → ℕ → LockState → Type 0
-TellsCancel old k told new = (answer : Result cancel.Cancel Refusal) × (told ≡ cancel_number answer) × Cancelled old k answer new
+TellsCancel old k told new = (answer : Result (Unit {0}) Refusal) × (told ≡ done_number answer) × Cancelled old k answer new

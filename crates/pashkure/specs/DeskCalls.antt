@@ -2,7 +2,6 @@
 use Rattle.std.specs.Prelude.{◌≡◌, ◌≢◌, ◌⊎◌, ◌≤◌, ℕ, List, ◌++◌, length, take, drop, Option, Some, None, Result, if◌then◌else◌, nat_eq}
 use Rattle.mm_arena.specs.declared.key.Key.{Key}
 use Rattle.mm_manager.specs.declared.refusal.Refusal.{Refusal}
-use Rattle.mm_manager.specs.declared.reply.Cancel as cancel
 use Rattle.mm_desk.specs.declared.reply.Adopted.{Adopted}
 use Rattle.mm_desk.specs.declared.reply.Asked.{Asked}
 use Rattle.mm_desk.specs.declared.reply.Tried.{Tried}
@@ -14,7 +13,7 @@ use Rattle.mm_thin.specs.Parts.{WorkerState}
 use Rattle.mm_thin.specs.Views.{no_desk}
 use Rattle.mm_thin.specs.declared.config.TheConstants.ThinConfig.{MAX_BUCKETS}
 use Rattle.mm_thin.specs.declared.reply.GiveUp.TheVariants.{Done}
-use Rattle.pashkure.specs.Answer.{begin_number, cancel_number}
+use Rattle.pashkure.specs.Answer.{begin_number, done_number}
 use Rattle.pashkure.specs.Calls.{begun_key}
 use Rattle.pashkure.specs.DeskAnswer.{adopted_number, asked_number, ended_number, tried_number, unlocked_number}
 use Rattle.pashkure.specs.DeskOwning.{desk_word}
@@ -82,7 +81,7 @@ TellsAbortAt old at told new = (answer : Result Unlocked Refusal) × (told ≡ e
 
 abbrev pub TellsCancelAt : HallState → ℕ → ℕ → HallState → Type 0
 TellsCancelAt old at told new =
-    (answer : Result cancel.Cancel Refusal) × (told ≡ cancel_number answer) × CancelsAt old.desk at answer new.desk × (new.desk.office ≡ old.desk.office) × (new.desk.keys ≡ old.desk.keys) × (new.room ≡ old.room)
+    (answer : Result (Unit {0}) Refusal) × (told ≡ done_number answer) × CancelsAt old.desk at answer new.desk × (new.desk.office ≡ old.desk.office) × (new.desk.keys ≡ old.desk.keys) × (new.room ≡ old.room)
 
 abbrev pub TellsBeginAt : HallState → ℕ → PlainKey → ℕ → PlainKey → HallState → Type 0
 TellsBeginAt old at written told key new =

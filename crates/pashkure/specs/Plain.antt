@@ -1,5 +1,5 @@
 -- What the records of the header stand for.
-use Rattle.std.specs.Prelude.{ℕ, Bool, true, false}
+use Rattle.std.specs.Prelude.{ℕ}
 use Rattle.mm_arena.specs.declared.key.Key.{Key}
 use Rattle.mm_manager.specs.declared.config.ManagerConfig.{ManagerConfig}
 use Rattle.mm_manager.specs.declared.reply.Status.{Status}
@@ -26,25 +26,16 @@ abbrev pub no_key : PlainKey
 no_key = record { slot = 0; generation = 0 }
 
 -- it was given the name
-abbrev pub granted_wake : Grant → PlainWake
-granted_wake g = record { key = plain_key g.key; number = g.resource; result = 0 }
+abbrev pub plain_wake : Grant → PlainWake
+plain_wake g = record { key = plain_key g.key; number = g.resource }
 
--- its abort came due
-abbrev pub aborted_wake : Key → PlainWake
-aborted_wake k = record { key = plain_key k; number = 0; result = 8 }
-
-abbrev pub bit : Bool → ℕ
-bit true = 1
-bit false = 0
-
-abbrev pub seen : Key → PlainKey → ℕ → Bool → PlainSeen
-seen k h n aborting = record { key = plain_key k; holder = h; number = n; is_aborting = bit aborting }
+abbrev pub seen : Key → PlainKey → ℕ → PlainSeen
+seen k h n = record { key = plain_key k; holder = h; number = n }
 
 -- a live transaction, and what it does
 abbrev pub plain_seen : Key → Status → PlainSeen
-plain_seen k status.Active = seen k no_key 0 false
-plain_seen k (status.Waiting n h aborting) = seen k (plain_key h) n aborting
-plain_seen k (status.Deadlock n h) = seen k (plain_key h) n false
+plain_seen k status.Active = seen k no_key 0
+plain_seen k (status.Waiting n h) = seen k (plain_key h) n
 
 abbrev pub counts_of : Totals → ℕ → PlainCounts
 counts_of t accepted = record { begun = t.begun; committed = t.committed; aborted = t.aborted; deadlocks = t.deadlocks; waits = t.waits; withdrawn = t.withdrawn; events = accepted; reserved = 0 }

@@ -1,5 +1,5 @@
 -- What the reading calls tell.
-use Rattle.std.specs.Prelude.{◌≡◌, ◌⊎◌, ℕ, ◌-◌, List, ◌++◌, length, drop, Option, Some, None, Ok, if◌then◌else◌, nat_le, nat_lt, option_map, slice_get}
+use Rattle.std.specs.Prelude.{◌≡◌, ◌⊎◌, ℕ, List, ◌++◌, length, drop, Option, Some, None, Ok, if◌then◌else◌, nat_le, option_map, slice_get}
 use denote.Bor.{Bor}
 use Rattle.mm_arena.specs.declared.key.Key.{Key}
 use Rattle.mm_names.specs.Names.{name_of}
@@ -8,16 +8,14 @@ use Rattle.mm_manager.specs.LockState.{LockState, Owns}
 use Rattle.mm_manager.specs.Reads.{HasStatus}
 use Rattle.mm_manager.specs.declared.reply.Status.{Status}
 use Rattle.pashkure.specs.Answer.{status_number}
-use Rattle.pashkure.specs.Plain.{plain_key, plain_seen, granted_wake, aborted_wake}
+use Rattle.pashkure.specs.Plain.{plain_key, plain_seen, plain_wake}
 use Rattle.pashkure.specs.declared.plain.PlainKey.{PlainKey}
 use Rattle.pashkure.specs.declared.plain.PlainSeen.{PlainSeen}
 use Rattle.pashkure.specs.declared.plain.PlainWake.{PlainWake}
 
--- whose wait the last call ended, by index: who was given a name, and after them whose abort came due
+-- whose wait the last call ended, by index
 abbrev pub wake_at : LockState → ℕ → Option PlainWake
-wake_at m i =
-    if nat_lt i (length m.granted) then option_map granted_wake (slice_get m.granted i)
-    else option_map aborted_wake (slice_get m.aborted (i - length m.granted))
+wake_at m i = option_map plain_wake (slice_get m.granted i)
 
 -- the transaction of a slot, and what it does
 abbrev pub LooksAt : LockState → ℕ → Option (Key × Status) → Type 0

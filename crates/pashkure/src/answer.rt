@@ -1,8 +1,8 @@
 //! The number of each answer, as `include/pashkure.h` has it.
 ghost use Rattle.std.specs.Prelude.{◌≡◌};
-ghost use Rattle.pashkure.specs.Answer.{refusal_number, begin_number, lock_number, try_number, done_number, abort_number, cancel_number, status_number};
+ghost use Rattle.pashkure.specs.Answer.{refusal_number, begin_number, lock_number, try_number, done_number, status_number};
 
-use mm_manager::{Abort, Cancel, Key, Lock, Refusal, Status, TryLock};
+use mm_manager::{Key, Lock, Refusal, Status, TryLock};
 
 pub const OK: u32 = 0;
 
@@ -14,15 +14,8 @@ pub const DEADLOCK: u32 = 3;
 
 pub const BUSY: u32 = 4;
 
-const LATER: u32 = 5;
-
-const CARRIED: u32 = 6;
-
 /// Nobody owns the name, nobody has the slot or the number.
 pub const FREE: u32 = 7;
-
-/// Of a wake: the abort of the transaction came due.
-pub const ABORTED: u32 = 8;
 
 /// The handle has no manager.
 pub const NOT_OPEN: u32 = 32;
@@ -50,7 +43,6 @@ pub fn of_refusal(refusal: Refusal) -> u32
 {
     match refusal {
         Refusal::NoTransaction => 16,
-        Refusal::MustAbort => 17,
         Refusal::Waiting => 18,
         Refusal::NotWaiting => 19,
         Refusal::NameEmpty => 20,
@@ -104,32 +96,11 @@ pub fn of_done(answer: Result<(), Refusal>) -> u32
     }
 }
 
-pub fn of_abort(answer: Result<Abort, Refusal>) -> u32
-    ensures { result ≡ abort_number answer }
-{
-    match answer {
-        Ok(Abort::Done) => OK,
-        Ok(Abort::Later) => LATER,
-        Err(refusal) => of_refusal(refusal),
-    }
-}
-
-pub fn of_cancel(answer: Result<Cancel, Refusal>) -> u32
-    ensures { result ≡ cancel_number answer }
-{
-    match answer {
-        Ok(Cancel::Withdrawn) => OK,
-        Ok(Cancel::Carried) => CARRIED,
-        Err(refusal) => of_refusal(refusal),
-    }
-}
-
 pub fn of_status(status: Status) -> u32
     ensures { result ≡ status_number status }
 {
     match status {
         Status::Active => OK,
         Status::Waiting { .. } => WAITS,
-        Status::Deadlock { .. } => DEADLOCK,
     }
 }

@@ -6,9 +6,7 @@ ghost use Rattle.pashkure.specs.Opening.{config_fault};
 ghost use Rattle.pashkure.specs.Calls.{IsOpen, TellsBegin, TellsLock, TellsTry, TellsUnlock, TellsCommit, TellsAbort, TellsCancel};
 ghost use Rattle.pashkure.specs.Plain.{config_of, key_of};
 
-use crate::answer::{
-    IN_USE, NO_MEMORY, NOT_OPEN, OK, of_abort, of_begin, of_cancel, of_done, of_lock, of_try,
-};
+use crate::answer::{IN_USE, NO_MEMORY, NOT_OPEN, OK, of_begin, of_done, of_lock, of_try};
 use crate::handle::{Handle, open};
 use crate::opening::{VERSION, fault};
 use crate::plain::{PlainConfig, PlainKey};
@@ -140,7 +138,7 @@ pub extern "C" fn pashkure_abort(handle: &mut Handle, key: PlainKey) -> u32
     if !handle.is_open() {
         return NOT_OPEN;
     }
-    of_abort(handle.manager().abort(key.key()))
+    of_done(handle.manager().abort(key.key()))
 }
 
 /// `LockManager::cancel`.
@@ -153,5 +151,5 @@ pub extern "C" fn pashkure_cancel(handle: &mut Handle, key: PlainKey) -> u32
     if !handle.is_open() {
         return NOT_OPEN;
     }
-    of_cancel(handle.manager().cancel(key.key()))
+    of_done(handle.manager().cancel(key.key()))
 }

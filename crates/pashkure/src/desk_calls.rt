@@ -4,7 +4,7 @@ ghost use Rattle.pashkure.specs.DeskCalls.{FreesAll, HasDesk, TellsAbortAt, Tell
 ghost use Rattle.mm_thin.specs.Calls.{GivesSomeUp};
 ghost use Rattle.pashkure.specs.WorkerCalls.{HasWorker};
 
-use crate::answer::{NOT_OPEN, of_begin, of_cancel};
+use crate::answer::{NOT_OPEN, of_begin, of_done};
 use crate::desk_answer::{of_adopted, of_asked, of_ended, of_tried, of_unlocked};
 use crate::desk_handle::DeskHandle;
 use crate::plain::PlainKey;
@@ -119,7 +119,7 @@ pub extern "C" fn pashkure_desk_cancel(desk: &mut DeskHandle, at: u32) -> u32
     if !desk.is_open() {
         return NOT_OPEN;
     }
-    of_cancel(desk.hall().desk.cancel(at))
+    of_done(desk.hall().desk.cancel(at))
 }
 
 /// `Desk::adopt_all`.

@@ -75,7 +75,7 @@ impl Hall {
         self.desk.commit(worker.at(), &mut self.room)
     }
 
-    /// Ends the transaction of a worker, be it in a deadlock or not, as `commit` does.
+    /// Ends the transaction of a worker, also one that waits, as `commit` does.
     pub(crate) fn abort(&mut self, worker: &mut Worker) -> Result<Unlocked, Refusal>
         ensures aborts { AbortsAt self.old.desk worker.old.at self.old.room result self.new.desk }
         ensures room { self.new.room ≡ self.old.room }

@@ -1,8 +1,7 @@
 //! The records of `include/pashkure.h`, with its members in its order.
 ghost use Rattle.std.specs.Prelude.{◌≡◌};
-ghost use Rattle.pashkure.specs.Plain.{key_of, config_of, plain_key, granted_wake, aborted_wake, seen, plain_seen, counts_of};
+ghost use Rattle.pashkure.specs.Plain.{key_of, config_of, plain_key, plain_wake, seen, plain_seen, counts_of};
 
-use crate::answer::{ABORTED, OK};
 use mm_manager::{Grant, Key, ManagerConfig, Status, Totals};
 
 /// The key of a transaction. Its slot is the process of a `Key`.
@@ -26,13 +25,12 @@ pub struct PlainConfig {
     pub reserved: u32,
 }
 
-/// Whose wait ended: it was given the name of this number, or it was aborted.
+/// Whose wait ended: it was given the name of this number.
 #[repr(C)]
 #[derive(Clone, Copy)]
 pub struct PlainWake {
     pub key: PlainKey,
     pub number: u32,
-    pub result: u32,
 }
 
 /// A live transaction, and the holder and the number of what it waits for.
@@ -42,7 +40,6 @@ pub struct PlainSeen {
     pub key: PlainKey,
     pub holder: PlainKey,
     pub number: u32,
-    pub is_aborting: u32,
 }
 
 /// What was counted.
@@ -99,24 +96,12 @@ impl PlainKey {
 
 impl PlainWake {
     /// It was given the name.
-    pub(crate) fn granted(grant: Grant) -> PlainWake
-        ensures { result ≡ granted_wake grant }
+    pub(crate) fn of(grant: Grant) -> PlainWake
+        ensures { result ≡ plain_wake grant }
     {
         PlainWake {
             key: PlainKey::of(grant.key),
             number: grant.resource,
-            result: OK,
-        }
-    }
-
-    /// It was aborted.
-    pub(crate) fn aborted(key: Key) -> PlainWake
-        ensures { result ≡ aborted_wake key }
-    {
-        PlainWake {
-            key: PlainKey::of(key),
-            number: 0,
-            result: ABORTED,
         }
     }
 }
@@ -127,26 +112,20 @@ impl PlainSeen {
         ensures { result ≡ plain_seen key status }
     {
         match status {
-            Status::Active => PlainSeen::made(key, PlainKey::NONE, 0, false),
-            Status::Waiting {
-                number,
-                holder,
-                aborting,
-            } => PlainSeen::made(key, PlainKey::of(holder), number, aborting),
-            Status::Deadlock { number, holder } => {
-                PlainSeen::made(key, PlainKey::of(holder), number, false)
+            Status::Active => PlainSeen::made(key, PlainKey::NONE, 0),
+            Status::Waiting { number, holder } => {
+                PlainSeen::made(key, PlainKey::of(holder), number)
             }
         }
     }
 
-    fn made(key: Key, holder: PlainKey, number: u32, is_aborting: bool) -> PlainSeen
-        ensures { result ≡ seen key holder number is_aborting }
+    fn made(key: Key, holder: PlainKey, number: u32) -> PlainSeen
+        ensures { result ≡ seen key holder number }
     {
         PlainSeen {
             key: PlainKey::of(key),
             holder,
             number,
-            is_aborting: u32::from(is_aborting),
         }
     }
 }

@@ -13,8 +13,7 @@ use crate::handle::Handle;
 use crate::plain::{PlainCounts, PlainKey, PlainSeen, PlainWake};
 use crate::tell::{tell_look, tell_name, tell_owner, tell_totals, tell_woken};
 
-/// The wake of this index of those that the last call told of: first who was given a name, and then whose abort came due. False, and nothing
-/// is written, if there are fewer.
+/// The wake of this index of those that the last call told of. False, and nothing is written, if there are fewer.
 #[unsafe(no_mangle)]
 pub extern "C" fn pashkure_woken(handle: &mut Handle, index: usize, woken: &mut PlainWake) -> bool
     ensures closed { ¬ IsOpen handle.old → result ≡ false }
@@ -29,8 +28,7 @@ pub extern "C" fn pashkure_woken(handle: &mut Handle, index: usize, woken: &mut 
     tell_woken(handle.manager(), index, woken)
 }
 
-/// Returns what is in a slot: 0, 2 or 3 of a transaction that is active, waits or is in a deadlock, or 7 if there is none, and then nothing is
-/// written.
+/// Returns what is in a slot: 0 or 2 of a transaction that is active or waits, or 7 if there is none, and then nothing is written.
 #[unsafe(no_mangle)]
 pub extern "C" fn pashkure_look(handle: &mut Handle, slot: u32, seen: &mut PlainSeen) -> u32
     ensures closed { ¬ IsOpen handle.old → (result ≡ 32) × (seen.new ≡ seen.old) }

@@ -80,12 +80,8 @@ pub(crate) fn tell_totals(manager: &LockManager) -> PlainCounts
 fn wake_at(manager: &LockManager, index: usize) -> Option<PlainWake>
     ensures { result ≡ wake_at manager.now index }
 {
-    let granted = manager.granted();
-    if index < granted.len() {
-        return Some(PlainWake::granted(granted[index]));
-    }
-    let key = manager.aborted().get(index - granted.len())?;
-    Some(PlainWake::aborted(*key))
+    let grant = manager.granted().get(index)?;
+    Some(PlainWake::of(*grant))
 }
 
 /// The transaction of a slot, and what it does.

@@ -9,7 +9,7 @@ mod together;
 
 use crate::tests::alone::{each_name_is_known, nine_names_and_a_long_one, one_name_by_two};
 use crate::tests::ends::{End, hand_over_in_portions};
-use crate::tests::together::{cross_often, share_one_place};
+use crate::tests::together::{cross_often, cross_once, share_one_place};
 use mm_thin_locks::{ManagerConfig, ThinLocks, ThinLocksConfig};
 use std::alloc::Global;
 use std::process::Abort;
@@ -25,6 +25,7 @@ enum Work {
     NineNames,
     OneNameByTwo,
     Cross,
+    CrossOnce,
     OnePlace,
     Portions(End),
 }
@@ -43,6 +44,7 @@ impl Work {
             Work::NineNames => nine_names_and_a_long_one(rt, locks),
             Work::OneNameByTwo => one_name_by_two(rt, locks),
             Work::Cross => cross_often(rt, locks, gate, number),
+            Work::CrossOnce => cross_once(rt, locks, gate, number),
             Work::OnePlace => share_one_place(rt, locks, gate, number),
             Work::Portions(end) => hand_over_in_portions(rt, locks, gate, number, end),
         }
@@ -130,6 +132,11 @@ fn test_one_name_by_two(rt: HostRuntime) {
 #[test]
 fn test_threads_that_cross(rt: HostRuntime) {
     commit_together(&rt, rt.alloc(), Work::Cross, 2, 400);
+}
+
+#[test]
+fn test_both_of_a_deadlock_commit(rt: HostRuntime) {
+    commit_together(&rt, rt.alloc(), Work::CrossOnce, 2, 12);
 }
 
 #[test]

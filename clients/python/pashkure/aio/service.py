@@ -132,14 +132,13 @@ class Session(Sleeper):
     def __init__(self, connection: Connection) -> None:
         super().__init__()
         self.connection, self.epoch, self.name_bytes = connection, connection.epoch, connection.name_bytes
-        self._last: Optional[Call] = None  # the last request
 
     async def ask(self, ask: Ask) -> Answer:
         connection = self.connection
         while not connection.can_write.is_set() and ask.word not in ENDS:
             await connection.can_write.wait()
         self.check()
-        call = self._last = Call(ask, self)
+        call = Call(ask, self)
         connection.send(call)
         while call.answer is None:
             self.check()
@@ -161,8 +160,8 @@ class Session(Sleeper):
             self.is_told()
 
     def abandon(self) -> bool:
-        if self._last is not None and self.connection.why is None:
-            self.connection.write(self.connection.talk.abandon(self._last))
+        if self.connection.why is None:
+            self.connection.write(self.connection.talk.abandon(self))
         return True
 
 

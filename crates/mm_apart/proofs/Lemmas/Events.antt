@@ -1,26 +1,23 @@
 -- What each event of a lock manager's table leaves of the live transactions of other processes.
-use Rattle.std.proofs.Common.{◌≡◌, ◌≢◌, ◌&&◌, ◌+◌, if◌then◌else◌, ℕ, Bool, true, false, List, fold, Option, Some, None, Ok, IsTrue, nat_eq, nat_lt, slice_index, slice_index_or, inl, inr, refl, ap, ◌∙◌}
+use Rattle.std.proofs.Common.{◌≡◌, ◌≢◌, ◌&&◌, ◌+◌, if◌then◌else◌, ℕ, Bool, true, false, List, length, fold, Option, Some, None, Ok, nat_eq, nat_lt, slice_index, slice_index_or, slice_set, inl, inr, refl, ap, ◌∙◌, arith, length-set, get_or-set_same}
 use Rattle.std.specs.Option.{option_map_or}
-use Rattle.std.proofs.lemmas.Bool.{cases_Bool, not-false}
+use Rattle.std.proofs.lemmas.Bool.{cases_Bool, cases_lt, not-false}
+use Rattle.std.proofs.lemmas.List.{get_or_past}
 use Rattle.mm_arena.specs.declared.key.Key.{Key}
 use Rattle.mm_rules.specs.declared.reply.Acquired.{Acquired}
 use Rattle.mm_rules.specs.declared.reply.Released.{Released}
-use Rattle.mm_rules.specs.TableState.{TableState, key_of, is_live, has_verdict, owner_of, owns, wait_of, waiters_of, resources_of, holder_of}
-use Rattle.mm_rules.specs.Change.{activate, block, take_back, abort, free_slot, vacate, vacate_fits, hand_over, hand_over_fits}
-use Rattle.mm_rules.specs.Event.{Event, Answer, Begin, Acquire, Release, Finish, Abort, Step, begin_tests, acquire_tests, acquire_answer, acquire_change, release_tests, release_answer, finish_tests, abort_tests}
+use Rattle.mm_rules.specs.TableState.{TableState, key_of, is_live, owner_of, owns, wait_of, waiters_of, resources_of, holder_of}
+use Rattle.mm_rules.specs.Change.{activate, block, free_slot, vacate, vacate_fits, hand_over, hand_over_fits}
+use Rattle.mm_rules.specs.Event.{Begin, Acquire, Release, Finish, Step, begin_tests, acquire_tests, acquire_answer, acquire_change, release_tests, release_answer, finish_tests}
 use Rattle.mm_rules.specs.Laws.{Laws}
 use Rattle.mm_rules.specs.Withdraw.{Withdraws, renew, shown_process, shows_waiting, withdraw, withdraw_tests}
-use Rattle.mm_rules.proofs.States.Abort.{fits_still}
-use Rattle.mm_rules.proofs.States.Activate.{waits_no_longer}
 use Rattle.mm_rules.proofs.States.Begin.{made_live, live_still}
-use Rattle.mm_rules.proofs.States.GiveUp.{take_back_keeps}
 use Rattle.mm_rules.proofs.States.HandOver.{hand_over_keeps}
 use Rattle.mm_rules.proofs.States.Lookups.{none_of_is_some}
 use Rattle.mm_rules.proofs.States.Outcome.{counting}
 use Rattle.mm_rules.proofs.States.Release.{owns_gives, may_hand_over}
-use Rattle.mm_settled.specs.Calls.{Made, MadeWithdrawal, Rests}
+use Rattle.mm_settled.specs.Calls.{MadeWithdrawal, Rests}
 use Rattle.mm_settled.proofs.Lemmas.Accepted.{accepted}
-use Rattle.mm_manager.proofs.Lemmas.Handed.{unmarked_here}
 use Rattle.mm_apart.proofs.Lemmas.Slots.{SameSlot, same_slot, slot_then, same_live, rests_same, vacated_same}
 
 counted_same : (p n : ℕ) (s t : TableState) → t ≡ counting s n → SameSlot p s t
@@ -55,13 +52,13 @@ withdraw_by p s n true =
     record { live = renewed.live; generation = renewed.generation }
 withdraw_by p s n false = record { live = refl; generation = refl }
 
-pub withdrawn_same : (p : ℕ) (s u : TableState) (k : Key) → Withdraws k s (Ok tt) u → SameSlot p s u
+withdrawn_same : (p : ℕ) (s u : TableState) (k : Key) → Withdraws k s (Ok tt) u → SameSlot p s u
 withdrawn_same p s u k step =
     let n = k.process in
     let done = accepted (withdraw_tests s k) s tt (withdraw s n) tt u step in
     slot_then p s (withdraw s n) u (withdraw_by p s n (shows_waiting s n)) (counted_same p ((withdraw s n).totals.accepted + 1) (withdraw s n) u done.state)
 
--- ---- release, finish, abort
+-- ---- release, finish
 
 pub released_same : (p : ℕ) (s u : TableState) (k : Key) (r : ℕ) (answer : Released) → Laws s → Step (Release k r) s (Ok answer) u → SameSlot p s u
 released_same p s u k r answer laws step =
@@ -81,18 +78,14 @@ finished_same p s u k laws step apart =
     slot_then p s (vacate s n) u (vacated_same p n s laws (none_of_is_some (wait_of s n) done.passed.1.1.0) (not-false (vacate_fits s n) done.passed.1.1.1.0) apart)
     (counted_same p ((vacate s n).totals.accepted + 1) (vacate s n) u done.state)
 
-pub aborted_same : (p : ℕ) (s u : TableState) (k : Key) → Laws s → Step (Abort k) s (Ok tt) u → p ≢ k.process → SameSlot p s u
-aborted_same p s u k laws step apart =
-    let n = k.process in
-    let done = accepted (abort_tests s k) s tt (abort s n) tt u step in
-    let verdict : has_verdict s n ≡ true = not-false (has_verdict s n) done.passed.1.1.0 in
-    let still : IsTrue (vacate_fits (take_back s n) n) = fits_still s n laws (not-false (vacate_fits s n) done.passed.1.1.1.0) in
-    let back : SameSlot p s (take_back s n) = record { live = refl; generation = refl } in
-    slot_then p s (take_back s n) u back
-    (slot_then p (take_back s n) (abort s n) u (vacated_same p n (take_back s n) (take_back_keeps s n laws verdict).laws (waits_no_longer s n) still apart)
-    (counted_same p ((abort s n).totals.accepted + 1) (abort s n) u done.state))
-
 -- ---- who ends is live no longer
+
+-- a mark that was taken off is off, also where there is none
+unmarked_here : (xs : List Bool) (n : ℕ) → slice_index_or (slice_set xs n false) n false ≡ false
+unmarked_here xs n = elim (cases_lt n (length xs)) [
+  | inl within ↦ get_or-set_same xs n false false within
+  | inr past ↦ get_or_past (slice_set xs n false) n false (omega (arith, past, length-set xs n false))
+]
 
 freed_gone : (s : TableState) (n : ℕ) → slice_index_or (free_slot s n).live n false ≡ false
 freed_gone s n = elim (cases_Bool (nat_lt (slice_index s.generations n) s.config.generation_limit)) [
@@ -113,15 +106,6 @@ finished_gone s u k step =
     let done = accepted (finish_tests s k) s tt (vacate s n) tt u step in
     ap (λ (v : TableState). slice_index_or v.live n false) done.state ∙ freed_gone (fold hand_over s (resources_of s n)) n
 
-pub aborted_gone : (s u : TableState) (k : Key) → Step (Abort k) s (Ok tt) u → IsGone u k.process
-aborted_gone s u k step =
-    let n = k.process in
-    let done = accepted (abort_tests s k) s tt (abort s n) tt u step in
-    ap (λ (v : TableState). slice_index_or v.live n false) done.state ∙ freed_gone (fold hand_over (take_back s n) (resources_of (take_back s n) n)) n
-
-pub finished_dead : (s u : TableState) (k : Key) → Step (Finish k) s (Ok tt) u → is_live u k ≡ false
-finished_dead s u k step = gone_dead u k (finished_gone s u k step)
-
 -- ---- who made them was live
 
 pub released_was_live : (s u : TableState) (k : Key) (r : ℕ) (answer : Released) → Step (Release k r) s (Ok answer) u → is_live s k ≡ true
@@ -130,16 +114,10 @@ released_was_live s u k r answer step = not-false (is_live s k) (accepted (relea
 pub finished_was_live : (s u : TableState) (k : Key) → Step (Finish k) s (Ok tt) u → is_live s k ≡ true
 finished_was_live s u k step = not-false (is_live s k) (accepted (finish_tests s k) s tt (vacate s k.process) tt u step).passed.1.0
 
-pub aborted_was_live : (s u : TableState) (k : Key) → Step (Abort k) s (Ok tt) u → is_live s k ≡ true
-aborted_was_live s u k step = not-false (is_live s k) (accepted (abort_tests s k) s tt (abort s k.process) tt u step).passed.1.0
-
 pub withdrawn_was_live : (s u : TableState) (k : Key) → Withdraws k s (Ok tt) u → is_live s k ≡ true
 withdrawn_was_live s u k step = not-false (is_live s k) (accepted (withdraw_tests s k) s tt (withdraw s k.process) tt u step).passed.1.0
 
 -- ---- and after the settle
-
-pub made_same : (p : ℕ) (e : Event) (s u : TableState) (answer : Answer e) (made : Made e s answer u) → SameSlot p s made.mid → SameSlot p s u
-made_same p e s u answer made same = slot_then p s made.mid u same (rests_same p made.mid u made.rests)
 
 pub rests_live : (s mid u : TableState) (t : Key) → Rests mid u → SameSlot t.process s mid → is_live u t ≡ is_live s t
 rests_live s mid u t rests same = same_live s u t (slot_then t.process s mid u same (rests_same t.process mid u rests))

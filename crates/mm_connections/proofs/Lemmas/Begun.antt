@@ -1,6 +1,7 @@
 -- Which connection began a transaction, after each change.
-use Rattle.std.proofs.Common.{◌≡◌, ◌≢◌, ◌<◌, ℕ, Bool, List, [], ◌∷◌, length, option_map, Option, Some, None, nat_eq, if◌then◌else◌, slice_set, slice_index_or, inl, inr, refl, sym, ap, subst, ◌∙◌, arith, length-set, get_or-set_same, get_or-set_other}
-use Rattle.std.proofs.lemmas.Bool.{cases_Bool, cases_lt, eqb-true, eq-eqb}
+use Rattle.std.proofs.Common.{◌≡◌, ◌≢◌, ◌<◌, ◌⊎◌, ◌/◌, ℕ, Bool, List, [], ◌∷◌, length, option_map, Option, Some, None, nat_eq, if◌then◌else◌, slice_set, slice_index_or, inl, inr, refl, sym, ap, subst, ◌∙◌, arith, length-set, get_or-set_same, get_or-set_other}
+use Rattle.std.proofs.lemmas.Bool.{cases_Bool, cases_eq, cases_lt, eqb-true, eq-eqb}
+use Rattle.std.proofs.lemmas.Option.{same_Some}
 use Rattle.std.proofs.Math.ListN.{length-map}
 use Rattle.std.proofs.lemmas.List.{get_or_past}
 use Rattle.mm_arena.specs.declared.key.Key.{Key}
@@ -10,7 +11,7 @@ use Rattle.mm_tagged_lists.specs.declared.spot.Spot.{Spot}
 use Rattle.mm_tagged_lists.specs.TaggedLists.{Listing, ListsMatchSpots, spot_at, list_at, freed}
 use Rattle.mm_tagged_lists.proofs.Lemmas.ListsMatchSpots.{in_no_list, in_range, list_at-freed, freed_matches, given_matches}
 use Rattle.mm_tagged_lists.proofs.Lemmas.Walk.{Among-head}
-use Rattle.mm_connections.specs.Begun.{connection_in, connection_of, IsOf, begun_by}
+use Rattle.mm_connections.specs.Begun.{aside_list, connection_in, connection_of, IsOf, listed, open_list, set_aside}
 
 pub none_here : (os : List (Option Spot)) (p : ℕ) → slice_index_or (slice_set os p None) p None ≡ None
 none_here os p = elim (cases_lt p (length os)) [
@@ -28,26 +29,46 @@ freed_spot_else b p q apart = get_or-set_other b.spots p q None None apart
 pub freed_else : (b : Listing) (p : ℕ) (t : Key) → t.process ≢ p → connection_of (freed b p) t ≡ connection_of b t
 freed_else b p t apart = ap (λ o. connection_in o t.generation) (freed_spot_else b p t.process apart)
 
-pub begun_else : (b : Listing) (c : ℕ) (k t : Key) → t.process ≢ k.process → connection_of (begun_by b c k) t ≡ connection_of b t
-begun_else b c k t apart =
-    ap (λ o. connection_in o t.generation) (get_or-set_other (freed b k.process).spots k.process t.process (Some (record { list = c; tag = k.generation })) None apart ∙ freed_spot_else b k.process t.process apart)
+pub listed_else : (b : Listing) (n : ℕ) (k t : Key) → t.process ≢ k.process → connection_of (listed b n k) t ≡ connection_of b t
+listed_else b n k t apart =
+    ap (λ o. connection_in o t.generation) (get_or-set_other (freed b k.process).spots k.process t.process (Some (record { list = n; tag = k.generation })) None apart ∙ freed_spot_else b k.process t.process apart)
+
+-- ---- the two lists of a connection
+
+pub half_open : (c : ℕ) → open_list c / 2 ≡ c
+half_open c = omega arith
+
+pub half_aside : (c : ℕ) → aside_list c / 2 ≡ c
+half_aside c = omega arith
+
+pub either_list : (n c : ℕ) → n / 2 ≡ c → (n ≡ open_list c) ⊎ (n ≡ aside_list c)
+either_list n c half = elim (cases_eq n (open_list c)) [ inl same ↦ inl same | inr other ↦ inr (omega (arith, half, other)) ]
 
 -- what is kept of a transaction of connection c
-kept_by : (o : Option Spot) (g c : ℕ) → connection_in o g ≡ Some c → o ≡ Some (record { list = c; tag = g })
-kept_by None g c is = absurd (cc)
-kept_by (Some k) g c is = elim (cases_Bool (nat_eq k.tag g)) [
+pub record IsKept (b : Listing) (c : ℕ) (t : Key) : Type 0 where
+  pub list : ℕ
+  pub half : list / 2 ≡ c
+  pub at : spot_at b t.process ≡ Some (record { list = list; tag = t.generation })
+
+kept_by : (b : Listing) (c : ℕ) (t : Key) (o : Option Spot) → spot_at b t.process ≡ o → connection_in o t.generation ≡ Some c → IsKept b c t
+kept_by b c t None at is = absurd (cc)
+kept_by b c t (Some k) at is = elim (cases_Bool (nat_eq k.tag t.generation)) [
   | inl equal ↦
-      let some : Some k.list ≡ Some c = sym (ap (λ (b : Bool). if b then Some k.list else None) equal) ∙ is in
-      let list : k.list ≡ c = cc in
-      let tag : k.tag ≡ g = eqb-true k.tag g equal in
-      λ i. Some (record { list = list i; tag = tag i })
+      let some : Some (k.list / 2) ≡ Some c = sym (ap (λ (x : Bool). if x then Some (k.list / 2) else None) equal) ∙ is in
+      let tag : k.tag ≡ t.generation = eqb-true k.tag t.generation equal in
+      record { list = k.list; half = same_Some (k.list / 2) c some; at = at ∙ (λ i. Some (record { list = k.list; tag = tag i })) }
   | inr other ↦
-      let none : None ≡ Some c = sym (ap (λ (b : Bool). if b then Some k.list else None) other) ∙ is in
+      let none : None ≡ Some c = sym (ap (λ (x : Bool). if x then Some (k.list / 2) else None) other) ∙ is in
       absurd (cc)
 ]
 
-pub kept : (b : Listing) (c : ℕ) (t : Key) → IsOf b c t → spot_at b t.process ≡ Some (record { list = c; tag = t.generation })
-kept b c t is = kept_by (spot_at b t.process) t.generation c is
+pub kept : (b : Listing) (c : ℕ) (t : Key) → IsOf b c t → IsKept b c t
+kept b c t is = kept_by b c t (spot_at b t.process) refl is
+
+-- a transaction with this spot is of that connection
+pub of_spot : (b : Listing) (c list : ℕ) (t : Key) → spot_at b t.process ≡ Some (record { list = list; tag = t.generation }) → list / 2 ≡ c → IsOf b c t
+of_spot b c list t at half =
+    ap (λ o. connection_in o t.generation) at ∙ ap (λ (x : Bool). if x then Some (list / 2) else None) (eq-eqb t.generation t.generation refl) ∙ ap Some half
 
 -- a process of which something is kept is one of those that there are
 pub kept_within : (b : Listing) (p : ℕ) (k : Spot) → spot_at b p ≡ Some k → p < length b.spots
@@ -77,13 +98,34 @@ module _ (b : Listing) (c p : ℕ) (matched : ListsMatchSpots b) (first : Some p
   pub freed_first : ListsMatchSpots (freed b p)
   freed_first = freed_matches b p first_within matched
 
--- a transaction that begins
-module _ (b : Listing) (c : ℕ) (k : Key) (matched : ListsMatchSpots b) (connection : c < length b.lists) (process : k.process < length b.spots) where
-  pub begun_matches : ListsMatchSpots (begun_by b c k)
-  begun_matches =
-      given_matches (freed b k.process) (record { list = c; tag = k.generation }) k.process
-      (rw (length-map b.lists (without k.process)) connection) (omega (arith, process, length-set b.spots k.process None)) (none_here b.spots k.process)
+-- a transaction is put into a list
+module _ (b : Listing) (n : ℕ) (k : Key) (process : k.process < length b.spots) where
+  put_at : spot_at (listed b n k) k.process ≡ Some (record { list = n; tag = k.generation })
+  put_at = get_or-set_same (freed b k.process).spots k.process (Some (record { list = n; tag = k.generation })) None (omega (arith, process, length-set b.spots k.process None))
+
+  pub listed_matches : ListsMatchSpots b → n < length b.lists → ListsMatchSpots (listed b n k)
+  listed_matches matched list =
+      given_matches (freed b k.process) (record { list = n; tag = k.generation }) k.process
+      (rw (length-map b.lists (without k.process)) list) (omega (arith, process, length-set b.spots k.process None)) (none_here b.spots k.process)
       (freed_matches b k.process process matched)
+
+-- who is set aside is of the connection still, and all others are whose they were
+module _ (b : Listing) (c p generation : ℕ) (was : spot_at b p ≡ Some (record { list = open_list c; tag = generation })) (t : Key) where
+  abbrev its_key : Key
+  its_key = record { process = p; generation = generation }
+
+  abbrev connection_by : ℕ → Option ℕ
+  connection_by list = if nat_eq generation t.generation then Some (list / 2) else None
+
+  aside_here : t.process ≡ p → connection_of (set_aside b c its_key) t ≡ connection_of b t
+  aside_here here =
+      let now : connection_of (set_aside b c its_key) t ≡ connection_by (aside_list c) =
+      ap (λ o. connection_in o t.generation) (ap (spot_at (set_aside b c its_key)) here ∙ put_at b (aside_list c) its_key (kept_within b p (record { list = open_list c; tag = generation }) was)) in
+      let before : connection_of b t ≡ connection_by (open_list c) = ap (λ o. connection_in o t.generation) (ap (spot_at b) here ∙ was) in
+      now ∙ ap (λ n. if nat_eq generation t.generation then Some n else None) (half_aside c ∙ sym (half_open c)) ∙ sym before
+
+  pub aside_same : connection_of (set_aside b c its_key) t ≡ connection_of b t
+  aside_same = elim (cases_eq t.process p) [ inl here ↦ aside_here here | inr apart ↦ listed_else b (aside_list c) its_key t apart ]
 
 -- the list of a connection without its first process
 without_first : (p : ℕ) (xs : List ℕ) → (Among p xs → ⊥) → without p (p ∷ xs) ≡ xs
@@ -97,3 +139,11 @@ rest_of (x ∷ xs) p is once =
 
 pub list_after : (b : Listing) (c p : ℕ) → ListsMatchSpots b → head (list_at b c) ≡ Some p → list_at b c ≡ p ∷ list_at (freed b p) c
 list_after b c p matched is = rest_of (list_at b c) p is (matched.once c) ∙ ap (λ ys. p ∷ ys) (sym (list_at-freed b p c))
+
+-- nor does another one become one of the list by what is put into another list
+pub list_aside : (b : Listing) (c p generation : ℕ) → ListsMatchSpots b → head (list_at b (open_list c)) ≡ Some p
+    → list_at b (open_list c) ≡ p ∷ list_at (set_aside b c (record { process = p; generation = generation })) (open_list c)
+list_aside b c p generation matched is =
+    let other : open_list c ≢ aside_list c = λ same. absurd (omega (arith, same)) in
+    list_after b (open_list c) p matched is
+    ∙ ap (λ xs. p ∷ xs) (sym (get_or-set_other (freed b p).lists (aside_list c) (open_list c) (p ∷ list_at (freed b p) (aside_list c)) [] other))

@@ -12,10 +12,6 @@ use Rattle.mm_settled.proofs.Lemmas.Accepted.{accepted}
 use Rattle.mm_manager.specs.Calls as calls
 use Rattle.mm_manager.specs.LockState.{LockState}
 use Rattle.mm_manager.specs.declared.refusal.Refusal.{Refusal}
-use Rattle.mm_manager.specs.declared.reply.Abort as abort
-use Rattle.mm_manager.specs.declared.reply.Abort.TheVariants as aborted_as
-use Rattle.mm_manager.specs.declared.reply.Cancel as cancel
-use Rattle.mm_manager.specs.declared.reply.Cancel.TheVariants as cancelled_as
 use Rattle.mm_manager.specs.declared.reply.Lock.{Lock}
 use Rattle.mm_manager.specs.declared.reply.Lock.TheVariants as lock
 use Rattle.mm_manager.specs.declared.reply.TryLock.{TryLock}
@@ -64,7 +60,7 @@ pub locks_config : (old new : LockState) (k : Key) (name : List ℕ) (answer : R
 locks_config old new k name (Ok lock.Granted) did = did.config
 locks_config old new k name (Ok lock.Held) did = ap (λ (m : LockState). m.table.config) did.1
 locks_config old new k name (Ok (lock.Waits h)) did = did.0.config
-locks_config old new k name (Ok (lock.Deadlock h)) did = did.0.config
+locks_config old new k name (Ok (lock.Deadlock h)) did = did.same.config
 locks_config old new k name (Err refusal) did = ap (λ (m : LockState). m.table.config) did.0
 
 tries_config : (old new : LockState) (k : Key) (name : List ℕ) (answer : Result TryLock Refusal) → calls.TriesName old k name answer new → new.table.config ≡ old.table.config
@@ -77,24 +73,20 @@ unlocks_config : (old new : LockState) (k : Key) (name : List ℕ) (answer : Res
 unlocks_config old new k name (Ok done) did = did.passes.config
 unlocks_config old new k name (Err refusal) did = ap (λ (m : LockState). m.table.config) did.0
 
+ends_config : (old new : LockState) (k : Key) → calls.Ends old k new → new.table.config ≡ old.table.config
+ends_config old new k did = did.passes.config
+
 commits_config : (old new : LockState) (k : Key) (answer : Result (Unit {0}) Refusal) → calls.Commits old k answer new → new.table.config ≡ old.table.config
-commits_config old new k (Ok done) did = did.passes.config
+commits_config old new k (Ok done) did = ends_config old new k did
 commits_config old new k (Err refusal) did = ap (λ (m : LockState). m.table.config) did.0
 
-ended_config : (old new : LockState) (k : Key) → calls.IsEnded old k new → new.table.config ≡ old.table.config
-ended_config old new k (inl did) = did.passes.config
-ended_config old new k (inr (inl did)) = did.passes.config
-ended_config old new k (inr (inr (mid, back, did))) = did.passes.config ∙ withdrawal_config old.table mid.table k back.made
-
-pub aborts_config : (old new : LockState) (k : Key) (answer : Result abort.Abort Refusal) → calls.Aborts old k answer new → new.table.config ≡ old.table.config
-aborts_config old new k (Ok aborted_as.Done) did = ended_config old new k did
-aborts_config old new k (Ok aborted_as.Later) did = ap (λ (m : LockState). m.table.config) did.2
+pub aborts_config : (old new : LockState) (k : Key) (answer : Result (Unit {0}) Refusal) → calls.Aborts old k answer new → new.table.config ≡ old.table.config
+aborts_config old new k (Ok done) (inl did) = ends_config old new k did
+aborts_config old new k (Ok done) (inr (mid, back, did)) = ends_config mid new k did ∙ withdrawal_config old.table mid.table k back.made
 aborts_config old new k (Err refusal) did = ap (λ (m : LockState). m.table.config) did.0
 
-cancels_config : (old new : LockState) (k : Key) (answer : Result cancel.Cancel Refusal) → calls.Cancels old k answer new → new.table.config ≡ old.table.config
-cancels_config old new k (Ok cancelled_as.Withdrawn) (inl (not_due, back)) = withdrawal_config old.table new.table k back.made
-cancels_config old new k (Ok cancelled_as.Withdrawn) (inr (was_due, done)) = ended_config old new k done
-cancels_config old new k (Ok cancelled_as.Carried) did = ap (λ (m : LockState). m.table.config) did.1
+pub cancels_config : (old new : LockState) (k : Key) (answer : Result (Unit {0}) Refusal) → calls.Cancels old k answer new → new.table.config ≡ old.table.config
+cancels_config old new k (Ok done) back = withdrawal_config old.table new.table k back.made
 cancels_config old new k (Err refusal) did = ap (λ (m : LockState). m.table.config) did.0
 
 -- ---- the requests

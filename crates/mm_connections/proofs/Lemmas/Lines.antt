@@ -1,5 +1,6 @@
 -- Lines to a connection, as they are printed and written.
-use Rattle.std.proofs.Common.{◌≡◌, ◌∙◌, sym, ap, subst, ℕ, List, [], ◌++◌, Option, append_assoc, append-nil, codes, decimal}
+use Rattle.std.proofs.Common.{◌≡◌, ◌∙◌, sym, ap, subst, ℕ, List, ◌++◌, Option, Result, Ok, Err, MatchResult, OnOk, append_assoc, codes, decimal}
+use Rattle.mm_lines.specs.declared.fault.Fault.{Fault}
 use Rattle.mm_lines.specs.Output.{Writes}
 use Rattle.mm_lines.proofs.Lemmas.Output.{writes_then, writes_added, writes_reply}
 use Rattle.mm_service.proofs.Lemmas.Pieces.{writes_after}
@@ -35,6 +36,14 @@ pub writes_caused : (before mid after : Option (List ℕ)) (old text caused kept
 writes_caused before mid after old text caused kept held lost first same second =
     subst (λ l. Writes before after l lost) (append_assoc old text caused) (writes_reply caused first same second)
 
--- or nothing
-pub writes_nothing : (before after : Option (List ℕ)) (old text none lost : List ℕ) → none ≡ [] → Writes before after (old ++ text) lost → Writes before after (old ++ (text ++ none)) lost
-writes_nothing before after old text none lost is w = subst (λ l. Writes before after (old ++ l) lost) (sym (ap (λ n. text ++ n) is ∙ append-nil text)) w
+-- what is told of one more is written if what was told before is, and else it is lost with that
+pub writes_told : (before mid after : Option (List ℕ)) (old told lost kept one now : List ℕ) (so_far result : Result (Unit {0}) Fault) → Writes before mid (old ++ told) lost → OnOk so_far (lost ≡ kept)
+    → MatchResult so_far (λ _. (l : List ℕ) × Writes mid after (kept ++ one) l × OnOk result (l ≡ now)) (λ fault. (after ≡ mid) × (result ≡ Err fault))
+    → (l : List ℕ) × Writes before after (old ++ (told ++ one)) l × OnOk result (l ≡ now)
+writes_told before mid after old told lost kept one now (Ok done) result first same (l, second, is) =
+    (l, writes_on before mid after old told kept one l (subst (λ xs. Writes before mid (old ++ told) xs) same first) second, is)
+writes_told before mid after old told lost kept one now (Err fault) result first same (still, failed) = (
+  lost ++ one,
+  subst (λ at. Writes before at (old ++ (told ++ one)) (lost ++ one)) (sym still) (lost_on before mid old told lost one first),
+  subst (λ (r : Result (Unit {0}) Fault). OnOk r (lost ++ one ≡ now)) (sym failed) tt,
+)

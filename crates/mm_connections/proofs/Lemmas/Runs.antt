@@ -1,18 +1,17 @@
 -- Connections are apart over a run.
-use Rattle.std.proofs.Common.{◌≡◌, ℕ, Bool, true, false, List, [], ◌∷◌, drop, Result, Ok, Err, inl, inr, refl, sym, ap, subst, ◌∙◌}
+use Rattle.std.proofs.Common.{◌≡◌, ℕ, Bool, true, false, List, [], ◌∷◌, drop, Result, Ok, Err, if◌then◌else◌, slice_set, inl, inr, refl, sym, ap, subst, ◌∙◌}
 use Rattle.mm_arena.specs.declared.key.Key.{Key}
 use Rattle.mm_lines.specs.Words.{words_of}
-use Rattle.mm_tagged_lists.specs.TaggedLists.{Listing, list_at}
+use Rattle.mm_tagged_lists.specs.TaggedLists.{Listing}
 use Rattle.mm_rules.specs.TableState.{is_live}
 use Rattle.mm_manager.specs.declared.refusal.Refusal.{Refusal}
 use Rattle.mm_service.specs.declared.effect.Effect.{Effect}
-use Rattle.mm_apart.proofs.Lemmas.Left.{as_it_was, left_left}
-use Rattle.mm_connections.specs.Apart.{MayTouch, NoneTouches, RunLeaves, RunsAreApart}
-use Rattle.mm_connections.specs.Begun.{connection_of}
+use Rattle.mm_connections.specs.Apart.{MayTouch, NoneTouches, RunsAreApart, StaysApart}
+use Rattle.mm_connections.specs.Begun.{connection_of, has_any}
 use Rattle.mm_connections.specs.Hub.{Hub}
 use Rattle.mm_connections.specs.Line.{said_of}
 use Rattle.mm_connections.specs.Permission.{permission_of}
-use Rattle.mm_connections.specs.Text.{Answers, AnswersSaid, BeginsAs, BeginsBy, DropsAll, RepliesTo, ServesBy, is_full}
+use Rattle.mm_connections.specs.Text.{Answers, AnswersSaid, BeginsAs, BeginsBy, DropsAll, RepliesTo, ServesBy, SetsAllAside, is_full, to_end, to_set_aside}
 use Rattle.mm_connections.specs.declared.line.Said.{Said}
 use Rattle.mm_connections.specs.declared.line.Said.TheVariants as said
 use Rattle.mm_connections.specs.declared.permission.Permission.{Permission}
@@ -20,6 +19,7 @@ use Rattle.mm_connections.specs.declared.permission.Permission.TheVariants as pe
 use Rattle.mm_connections.specs.declared.request.ClientRequest.{ClientRequest}
 use Rattle.mm_connections.specs.declared.request.ClientRequest.TheVariants as asked
 use Rattle.mm_connections.proofs.Lemmas.Apart.{lines_are_apart}
+use Rattle.mm_connections.proofs.Lemmas.HangUp.{same_stays, stays_then}
 
 -- ---- no line changes the numbers of the opening
 
@@ -46,10 +46,20 @@ drops_options : (c : ℕ) (ps : List ℕ) (old : Hub) (out : List ℕ) (new : Hu
 drops_options c [] old out new (none, same) = ap (λ (h : Hub). h.options) same
 drops_options c (p ∷ ps) old out new (mid, first, rest, one, later, text) = drops_options c ps mid rest new later ∙ ap (λ (h : Hub). h.options) one.rest
 
+sets_options : (c : ℕ) (ps : List ℕ) (old new : Hub) → SetsAllAside c ps old new → new.options ≡ old.options
+sets_options c [] old new same = ap (λ (h : Hub). h.options) same
+sets_options c (p ∷ ps) old new (mid, one, rest) = sets_options c ps mid new rest ∙ ap (λ (h : Hub). h.options) one.rest
+
+closed_options : (c : ℕ) (h : Hub) (b : Bool) → (if b then h else record h { counts = slice_set h.counts c 0 }).options ≡ h.options
+closed_options c h true = refl
+closed_options c h false = refl
+
 said_options : (s : Said) (name : List ℕ) (old : Hub) (out : List ℕ) (one : ℕ) (new : Hub) → AnswersSaid s name old out one new → new.options ≡ old.options
 said_options said.Nobody name old out one new (text, count, same) = ap (λ (h : Hub). h.options) same
 said_options (said.Malformed c) name old out one new (text, count, same) = ap (λ (h : Hub). h.options) same
-said_options (said.HangsUp c) name old out one new (lawful, did, none) = ap (λ (h : Hub). h.options) did.rest ∙ drops_options c (list_at old.begun c) old did.told did.last did.drops
+said_options (said.HangsUp c) name old out one new (lawful, did, none) =
+    ap (λ (h : Hub). h.options) did.rest ∙ closed_options c did.last (has_any did.last.begun c) ∙ drops_options c (to_end did.aside.begun c) did.aside did.told did.last did.drops
+    ∙ sets_options c (to_set_aside old.begun c) old did.aside did.sets
 said_options (said.Asks c request) name old out one new (lawful, did, none) = serves_options (permission_of old.begun c request) c request name out old new did
 
 answers_options : (old : Hub) (line out : List ℕ) (one : ℕ) (new : Hub) → Answers old line out one new → new.options ≡ old.options
@@ -71,23 +81,16 @@ module _ (old mid last : Hub) (line : List ℕ) (lines : List (List ℕ)) (t : K
       let kept = subst (λ n. MayTouch mid.begun (said_of n other).said t) (ap (λ o. o.connections) (answers_options old line reply one mid answers)) touches in
       none other (inr among) (touch_same old.begun mid.begun (said_of old.options.connections other).said t same kept)
 
-  run_next : (is_live mid.manager.table t ≡ true → NoneTouches mid lines t → RunLeaves mid t last) → RunLeaves old t last
-  run_next rest = elim (lines_are_apart line reply one old mid answers t live (none line (inl refl))) [
-    | inr ended ↦ inr ended.0
-    | inl kept ↦ elim (rest kept.0.live (none_after kept.1)) [
-      | inl later ↦ inl (left_left old.manager mid.manager last.manager t kept.0 later.0, later.1 ∙ kept.1)
-      | inr due ↦ inr (sym kept.0.due ∙ due)
-    ]
-  ]
-
-run_same : (old last : Hub) (t : Key) → last ≡ old → is_live old.manager.table t ≡ true → RunLeaves old t last
-run_same old last t same live = inl (as_it_was old.manager last.manager t live (ap (λ (h : Hub). h.manager) same), ap (λ (h : Hub). connection_of h.begun t) same)
+  run_next : (is_live mid.manager.table t ≡ true → NoneTouches mid lines t → StaysApart mid t last) → StaysApart old t last
+  run_next rest =
+      let first = lines_are_apart line reply one old mid answers t live (none line (inl refl)) in
+      stays_then old mid last t first (rest first.left.live (none_after first.owner))
 
 pub runs_are_apart : RunsAreApart
-runs_are_apart true [] out malformed old last (none, zero, same) t live apart = run_same old last t same live
-runs_are_apart false [] out malformed old last (none, zero, same) t live apart = run_same old last t same live
+runs_are_apart true [] out malformed old last (none, zero, same) t live apart = same_stays old last t same live
+runs_are_apart false [] out malformed old last (none, zero, same) t live apart = same_stays old last t same live
 runs_are_apart true (line ∷ lines) out malformed old last (mid, reply, rest, one, more, answers, later, text, count) t live apart =
     run_next old mid last line lines t reply one answers live apart (λ still none. runs_are_apart true lines rest more mid last later t still none)
-runs_are_apart false (line ∷ lines) out malformed old last (inl (none, zero, same)) t live apart = run_same old last t same live
+runs_are_apart false (line ∷ lines) out malformed old last (inl (none, zero, same)) t live apart = same_stays old last t same live
 runs_are_apart false (line ∷ lines) out malformed old last (inr (mid, reply, rest, one, more, answers, later, text, count)) t live apart =
     run_next old mid last line lines t reply one answers live apart (λ still none. runs_are_apart false lines rest more mid last later t still none)

@@ -1,13 +1,14 @@
 -- The connection that a line names is one of those that there are, and a request of several names is short.
-use Rattle.std.proofs.Common.{◌≡◌, ◌∙◌, ◌<◌, ◌≤◌, ◌-◌, ◌^◌, ◌∷◌, ℕ, Bool, true, false, List, [], length, refl, Option, Some, None, codes, nat_lt, if◌then◌else◌, inl, inr, sym, ap, subst, arith}
+use Rattle.std.proofs.Common.{◌≡◌, ◌∙◌, ◌<◌, ◌≤◌, ◌-◌, ◌^◌, ◌∷◌, ℕ, Bool, true, false, List, [], length, refl, Option, Some, None, codes, nat_le, nat_lt, if◌then◌else◌, inl, inr, sym, ap, subst, arith}
 use Rattle.std.specs.Prelude.{⊤}
 use Rattle.std.specs.Map.{lookup}
 use Rattle.std.specs.Str.{bytes_eq}
 use Rattle.std.specs.Str.Lines.{strip_carriage_return}
-use Rattle.std.specs.List.{position_or_len, before_first, after_first}
-use Rattle.std.proofs.lemmas.Bool.{cases_Bool, ltb-true, ltb-false}
+use Rattle.std.specs.List.{list_all, position_or_len, before_first, after_first}
+use Rattle.std.proofs.lemmas.Bool.{and_parts, cases_Bool, leb-true, ltb-true, ltb-false}
 use Rattle.mm_lines.specs.Cut.{is}
 use Rattle.mm_lines.specs.Words.{◌>>=◌, key_of, number_at_most, words_of}
+use Rattle.mm_service.specs.Forms.{is_name_byte}
 use Rattle.mm_service.specs.Line.{request_line}
 use Rattle.mm_service.specs.declared.line.Line.{Line}
 use Rattle.mm_service.specs.declared.line.Line.TheVariants as kind
@@ -22,7 +23,7 @@ use Rattle.mm_connections.specs.declared.request.ClientRequest.{ClientRequest}
 use Rattle.mm_connections.specs.declared.request.ClientRequest.TheVariants as asked
 use Rattle.mm_connections.specs.declared.request.ReadRequest.{ReadRequest}
 use Rattle.mm_connections.specs.declared.request.ReadRequest.TheVariants as reads
-use Rattle.mm_connections.specs.private.Names.{IsShort}
+use Rattle.mm_connections.proofs.Lemmas.Short.{request_short}
 use Rattle.mm_connections.specs.declared.line.Said.{Said}
 use Rattle.mm_connections.specs.declared.line.Said.TheVariants as said
 
@@ -31,7 +32,7 @@ abbrev pub IsFit : ℕ → Said → List ℕ → Type 0
 IsFit n said.Nobody name = ⊤
 IsFit n (said.Malformed c) name = c < n
 IsFit n (said.HangsUp c) name = c < n
-IsFit n (said.Asks c request) name = (c < n) × IsShort request name
+IsFit n (said.Asks c request) name = (c < n) × (length name ≤ 1048)
 
 abbrev pub Fits : ℕ → NamedSaid → Type 0
 Fits n named = IsFit n named.said named.name
@@ -65,37 +66,40 @@ hung_up_fits : (n : ℕ) (o : Option ℕ) → ((d : ℕ) → o ≡ Some d → d 
 hung_up_fits n None within = tt
 hung_up_fits n (Some c) within = within c refl
 
-plain_short : (request : Request) (name : List ℕ) → IsShort (client_asked request name).request (client_asked request name).about
-plain_short requests.Begin name = omega arith
-plain_short (requests.OfName request k) name = tt
-plain_short (requests.OfKey request k) name = tt
-plain_short (requests.Holds k) name = tt
-plain_short requests.Owner name = tt
-plain_short requests.Graph name = tt
-plain_short requests.Totals name = tt
+plain_short : (request : Request) (name : List ℕ) → length name ≤ 1048 → length (client_asked request name).about ≤ 1048
+plain_short requests.Begin name short = omega arith
+plain_short (requests.OfName request k) name short = short
+plain_short (requests.OfKey request k) name short = short
+plain_short (requests.Holds k) name short = short
+plain_short requests.Owner name short = short
+plain_short requests.Graph name short = short
+plain_short requests.Totals name short = short
 
 -- what is asked so, if anything, is short
 abbrev AreShort : Option AskedByClient → Type 0
 AreShort None = ⊤
-AreShort (Some asked) = IsShort asked.request asked.about
+AreShort (Some asked) = length asked.about ≤ 1048
 
-further_short : (request : ClientRequest) (about : List ℕ) (b : Bool) → IsShort request about → AreShort (further request about b)
+further_short : (request : ClientRequest) (about : List ℕ) (b : Bool) → length about ≤ 1048 → AreShort (further request about b)
 further_short request about true short = short
 further_short request about false short = tt
 
-read_short : (request : ReadRequest) (about : List ℕ) (words : List (List ℕ)) → AreShort (read request about words)
-read_short request about [] = tt
-read_short request about (word ∷ words) = tt
+read_short : (request : ReadRequest) (about : List ℕ) (words : List (List ℕ)) → length about ≤ 1048 → AreShort (read request about words)
+read_short request about [] short = short
+read_short request about (word ∷ words) short = tt
 
 -- where nothing is asked before, nothing is
 bind_short : {A : Type 0} (o : Option A) (f : A → Option AskedByClient) → ((a : A) → AreShort (f a)) → AreShort (o >>= f)
 bind_short None f short = tt
 bind_short (Some a) f short = short a
 
+name_short : (name : List ℕ) → is_name name ≡ true → length name ≤ 1048
+name_short name is = omega (arith, leb-true (length name) 1024 (and_parts (nat_le (length name) 1024) (list_all is_name_byte name) is).0)
+
 fence_short : (request : ReadRequest) (words : List (List ℕ)) → AreShort (fence_name request words)
 fence_short request [] = tt
 fence_short request (name ∷ words) = elim (cases_Bool (is_name name)) [
-  | inl is ↦ rw is (read_short request name words)
+  | inl is ↦ rw is (read_short request name words (name_short name is))
   | inr not ↦ rw not tt
 ]
 
@@ -104,13 +108,11 @@ module _ (line : List ℕ) (short : length line ≤ 1048) where
   form_short forms.Begin words = further_short asked.Begin line (are_names words) short
   form_short forms.Lock [] = tt
   form_short forms.Lock (k ∷ words) = bind_short (key_of k) (λ key. further (asked.LockAll key) line (are_names words)) (λ key. further_short (asked.LockAll key) line (are_names words) short)
-  form_short forms.Cycle [] = tt
-  form_short forms.Cycle (k ∷ words) = bind_short (key_of k) (λ key. read (reads.Cycle key) [] words) (λ key. read_short (reads.Cycle key) [] words)
   form_short forms.Fence [] = tt
   form_short forms.Fence (k ∷ words) = bind_short (key_of k) (λ key. fence_name (reads.Fence key) words) (λ key. fence_short (reads.Fence key) words)
-  form_short forms.Hello words = read_short reads.Hello [] words
-  form_short forms.List words = read_short reads.List [] words
-  form_short forms.Counts words = read_short reads.Counts [] words
+  form_short forms.Hello words = read_short reads.Hello [] words (omega arith)
+  form_short forms.List words = read_short reads.List [] words (omega arith)
+  form_short forms.Counts words = read_short reads.Counts [] words (omega arith)
 
   words_short : (words : List (List ℕ)) → AreShort (further_of_words line words)
   words_short [] = tt
@@ -120,17 +122,17 @@ further_fits : (n c : ℕ) (asked : Option AskedByClient) → c < n → AreShort
 further_fits n c None within short = within
 further_fits n c (Some asked) within short = (within, short)
 
-line_fits : (n c : ℕ) (line : Line) (name rest : List ℕ) → c < n → Fits n (said_by c line name rest)
-line_fits n c kind.Silent name rest within = within
-line_fits n c kind.Malformed name rest within = elim (cases_Bool (nat_lt 1048 (length rest))) [
+line_fits : (n c : ℕ) (line : Line) (name rest : List ℕ) → c < n → length name ≤ 1048 → Fits n (said_by c line name rest)
+line_fits n c kind.Silent name rest within fits = within
+line_fits n c kind.Malformed name rest within fits = elim (cases_Bool (nat_lt 1048 (length rest))) [
   | inl long ↦ rw long within
   | inr short ↦ rw short (further_fits n c (further_of rest) within (words_short rest (ltb-false 1048 (length rest) short) (words_of rest)))
 ]
-line_fits n c (kind.Request request) name rest within = (within, plain_short request name)
+line_fits n c (kind.Request request) name rest within fits = (within, plain_short request name fits)
 
 asked_fits : (n : ℕ) (o : Option ℕ) (rest : List ℕ) → ((d : ℕ) → o ≡ Some d → d < n) → Fits n (asked_by o rest)
 asked_fits n None rest within = tt
-asked_fits n (Some c) rest within = line_fits n c (request_line rest).line (request_line rest).name rest (within c refl)
+asked_fits n (Some c) rest within = line_fits n c (request_line rest).line (request_line rest).name rest (within c refl) (omega (arith, request_short rest))
 
 parts_fit : (n : ℕ) (head rest : List ℕ) → Fits n (said_of_parts n head rest)
 parts_fit n head rest = elim (cases_Bool (bytes_eq head (codes "-"))) [

@@ -2,8 +2,7 @@
 use Rattle.std.proofs.Common.{◌≡◌, ◌∙◌, ℕ, Bool, Option, Some, Result, Ok, Err, if◌then◌else◌, option_map, option_and_then, sym, ap}
 use Rattle.std.specs.Option.{option_map_or}
 use Rattle.mm_arena.specs.declared.key.Key.{Key}
-use Rattle.mm_bit_set.specs.BitSet.{has}
-use Rattle.mm_rules.specs.TableState.{key_of, has_verdict}
+use Rattle.mm_rules.specs.TableState.{key_of}
 use Rattle.mm_manager.specs.LockState.{LockState}
 use Rattle.mm_manager.specs.Reads.{Does, HasStatus, IsHeldUp, edge, wait_at}
 use Rattle.mm_manager.specs.declared.refusal.Refusal.{Refusal}
@@ -21,13 +20,11 @@ module _ (m : LockState) (p : ℕ) where
   waits_at n h held = ap (option_and_then (edge m.table p)) held.waits ∙ ap (option_map (waiting_at n)) held.holder
 
   abbrev status_in : Option Wait → Status
-  status_in o = option_map_or (status_by (has_verdict m.table p) (has m.due p)) o status.Active
+  status_in o = option_map_or status_by o status.Active
 
   told_is : (told : Status) → Does m p told → told ≡ status_at m p
   told_is status.Active none = sym (ap (λ (o : Option ℕ). status_in (option_and_then (edge m.table p) o)) none)
-  told_is (status.Waiting n h due) (held, verdict, is) =
-      ap (status.Waiting n h) is ∙ sym (ap status_in (waits_at n h held) ∙ ap (λ (v : Bool). status_by v (has m.due p) (waiting_at n h)) verdict)
-  told_is (status.Deadlock n h) (held, verdict) = sym (ap status_in (waits_at n h held) ∙ ap (λ (v : Bool). status_by v (has m.due p) (waiting_at n h)) verdict)
+  told_is (status.Waiting n h) held = sym (ap status_in (waits_at n h held))
 
 pub status_is : (m : LockState) (k : Key) (answer : Result Status Refusal) → HasStatus m k answer → answer ≡ status_of m k
 status_is m k (Ok told) (live, does) = ap (λ (s : Status). Ok s) (told_is m k.process told does) ∙ sym (ap (λ (b : Bool). if b then Ok (status_at m k.process) else Err NoTransaction) live)

@@ -1,30 +1,30 @@
 -- From the answers by number to what a request for a name says.
-use Rattle.std.proofs.Common.{◌≡◌, ◌⊎◌, ℕ, Bool, List, Some, None, Result, Ok, Err, IfOk, OnOk, inl, inr, refl, sym, ap, subst, ◌∙◌, if◌then◌else◌, slice_set}
+use Rattle.std.proofs.Common.{◌≡◌, ◌⊎◌, ℕ, List, Some, None, Result, Ok, Err, IfOk, OnOk, inl, inr, refl, sym, ap, subst, ◌∙◌, slice_set}
 use Rattle.std.proofs.lemmas.Bool.{not-false}
 use Rattle.std.proofs.lemmas.List.{set-set, set-get_or}
 use Rattle.mm_arena.specs.declared.key.Key.{Key}
 use Rattle.mm_names.specs.Names.{NameTable, name_of, with_name, IsFree, IsNamed, IsRefusedAsFull, Interns}
 use Rattle.mm_rules.specs.declared.reply.Acquired.TheVariants as acquired
-use Rattle.mm_rules.specs.TableState.{TableState, is_live, has_verdict, owner_of, wait_of, waited_for}
+use Rattle.mm_rules.specs.TableState.{TableState, is_live, owner_of, wait_of, waited_for}
 use Rattle.mm_rules.specs.Event.{acquire_tests, acquire_answer, acquire_change}
 use Rattle.mm_rules.specs.Laws.{Laws}
 use Rattle.mm_rules.proofs.States.Lookups.{none_of_is_some}
-use Rattle.mm_settled.specs.Calls.{Locks, OthersKeepVerdicts}
+use Rattle.mm_settled.specs.Calls.{Locks}
 use Rattle.mm_settled.specs.declared.reply.Locked.TheVariants as locked
 use Rattle.mm_settled.proofs.Lemmas.Accepted.{accepted}
 use Rattle.mm_manager.specs.Calls.{Requests}
-use Rattle.mm_manager.specs.Permit.{first_refusal, may_ask, may_ask_in, may_count, may_name, may_request}
+use Rattle.mm_manager.specs.Permit.{first_refusal, may_ask, may_count, may_name, may_request}
 use Rattle.mm_manager.specs.Refused.{LockRefused}
 use Rattle.mm_manager.specs.declared.refusal.Refusal.{Refusal}
-use Rattle.mm_manager.specs.declared.refusal.Refusal.TheVariants.{NamesFull, NoTransaction}
+use Rattle.mm_manager.specs.declared.refusal.Refusal.TheVariants.{NamesFull}
 use Rattle.mm_manager.specs.declared.reply.Lock.{Lock}
 use Rattle.mm_manager.specs.declared.reply.Lock.TheVariants as lock
-use Rattle.mm_manager.specs.private.Handed.{DueWait}
 use Rattle.mm_manager.specs.private.Numbers.{AreNumbered, bare}
 use Rattle.mm_manager.specs.private.Requests.{may_ask_more, AnswersNew, AnswersNamed, AsksFor, Requested}
 use Rattle.mm_manager.specs.private.Room.{HasReserve}
-use Rattle.mm_manager.proofs.Lemmas.Asked.{RequestKeeps, request_keeps, due_still}
-use Rattle.mm_manager.proofs.Lemmas.May.{asks, counted}
+use Rattle.mm_manager.proofs.Lemmas.Asked.{RequestKeeps, request_keeps}
+use Rattle.mm_manager.proofs.Lemmas.May.{asks, counted, may_ask_of}
+use Rattle.mm_manager.proofs.Lemmas.Numbers.{numbered_alike}
 use Rattle.mm_manager.proofs.Lemmas.Requests.{granted_is, queued_is, numbered_granted, numbered_queued}
 
 -- ---- what refuses first
@@ -61,16 +61,14 @@ module _ (s : TableState) (name_bytes : ℕ) (k : Key) (name : List ℕ) where
 pub granted_asks : (s u : TableState) (k : Key) (n : ℕ) → Locks s k n (Ok locked.Granted) u → may_ask s k ≡ Ok tt
 granted_asks s u k n locks =
     let done = accepted (acquire_tests s k n) s (acquire_answer s k (owner_of s n)) (acquire_change s k n (owner_of s n)) acquired.Granted u locks in
-    ap (λ b. if b then may_ask_in (wait_of s k.process) (has_verdict s k.process) else Err NoTransaction) (not-false (is_live s k) done.passed.1.0)
-    ∙ ap (λ o. may_ask_in o (has_verdict s k.process)) (none_of_is_some (wait_of s k.process) done.passed.1.1.1.0)
+    may_ask_of s k (not-false (is_live s k) done.passed.1.0) (none_of_is_some (wait_of s k.process) done.passed.1.1.1.0)
 
 -- so it may after it
 pub granted_asks_more : (s u : TableState) (k : Key) (n : ℕ) → Locks s k n (Ok locked.Granted) u → may_ask u k ≡ Ok tt
 granted_asks_more s u k n locks =
     let granted = granted_is s u k n locks in
     let active = asks s k (granted_asks s u k n locks) in
-    ap (λ b. if b then may_ask_in (wait_of u k.process) (has_verdict u k.process) else Err NoTransaction) (granted.live ∙ active.live)
-    ∙ ap (λ o. may_ask_in o (has_verdict u k.process)) (ap (λ ws. waited_for ws k.process) granted.waits ∙ active.idle)
+    may_ask_of u k (granted.live ∙ active.live) (ap (λ ws. waited_for ws k.process) granted.waits ∙ active.idle)
 
 pub request_asks : (s : TableState) (name_bytes : ℕ) (k : Key) (name : List ℕ) → may_request s name_bytes k name ≡ Ok tt → may_ask s k ≡ Ok tt
 request_asks s name_bytes k name may = (first_both (may_ask s k) (first_refusal (may_count s) (may_name name_bytes name)) may).0
@@ -128,7 +126,7 @@ module _ (s u : TableState) (t after : NameTable) (k : Key) (name : List ℕ) (n
     numbered_by : AreNumbered s t → Laws s → (answer : Lock) → AsksFor s k n answer u → AreNumbered u after
     numbered_by numbered laws lock.Granted locks = numbered_granted s t numbered after name n laws k u (granted_is s u k n locks) (inl (known, kept))
     numbered_by numbered laws (lock.Waits h) (label, locks) = numbered_queued s t numbered after name n k h u (queued_is s u k h n locks.0) (inl (known, kept))
-    numbered_by numbered laws (lock.Deadlock h) (label, locks) = numbered_queued s t numbered after name n k h u (queued_is s u k h n locks.0) (inl (known, kept))
+    numbered_by numbered laws (lock.Deadlock h) (label, locks) = rw kept (numbered_alike s t numbered u locks.same.owners locks.same.config)
     numbered_by numbered laws lock.Held (owner, same) = rw (same, kept) numbered
 
     pub named_numbered : AreNumbered s t → Laws s → (reply : Result Lock Refusal) → AnswersNamed s k n reply u → AreNumbered u after
@@ -162,9 +160,4 @@ module _ (s u : TableState) (t named : NameTable) (k : Key) (name : List ℕ) (l
   requested_keeps (Ok answer) (may, asked) =
       request_keeps s u t named k name answer record { laws = laws; room = room; below = counted s (may_of s t.name_bytes k name may).1 } asked
   requested_keeps (Err refusal) (why, same, kept) =
-      subst (λ (v : TableState). RequestKeeps s v) (sym same) record { laws = laws; room = room; config = refl; still = λ m q waits. waits }
-
-  pub requested_due : (due : List Bool) (reply : Result Lock Refusal) → Requested s t k name reply u named → OthersKeepVerdicts s u k.process → DueWait s due → DueWait u due
-  requested_due due (Ok answer) (may, asked) others waits =
-      due_still s u due k (requested_keeps (Ok answer) (may, asked)) others (asks s k (may_of s t.name_bytes k name may).0).idle waits
-  requested_due due (Err refusal) (why, same, kept) others waits = subst (λ (v : TableState). DueWait v due) (sym same) waits
+      subst (λ (v : TableState). RequestKeeps s v) (sym same) record { laws = laws; room = room; config = refl }

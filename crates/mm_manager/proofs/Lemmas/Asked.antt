@@ -1,6 +1,6 @@
 -- From numbers to names: what a request does.
-use Rattle.std.proofs.Common.{◌≡◌, ◌≢◌, ◌∷◌, ◌<◌, ◌≤◌, ◌+◌, ◌*◌, ◌/◌, ℕ, true, Bool, List, [], Some, None, Result, Ok, Err, inl, inr, refl, sym, ap, subst, ◌∙◌, slice_index_or, get_or-set_same, get_or-set_other, arith, length}
-use Rattle.std.proofs.lemmas.Bool.{cases_eq, ltb-true}
+use Rattle.std.proofs.Common.{◌≡◌, ◌≢◌, ◌∷◌, ◌<◌, ◌≤◌, ◌+◌, ◌*◌, ◌/◌, ℕ, true, List, [], Some, None, Result, Ok, Err, inl, inr, refl, sym, ap, subst, ◌∙◌, slice_index_or, get_or-set_same, get_or-set_other, arith, length}
+use Rattle.std.proofs.lemmas.Bool.{ltb-true}
 use Rattle.mm_arena.specs.declared.key.Key.{Key}
 use Rattle.mm_lists.specs.Members.{Among}
 use Rattle.mm_lists.proofs.Lemmas.Among.{among_right}
@@ -10,9 +10,10 @@ use Rattle.mm_rules.specs.TableState.{TableState, owner_of, wait_of, waited_for}
 use Rattle.mm_rules.specs.Event.{Acquire, Settle}
 use Rattle.mm_rules.specs.Laws.{Laws}
 use Rattle.mm_rules.proofs.States.EventsKeepLaws.{event_keeps}
+use Rattle.mm_rules.proofs.States.TakeBack.{take_back_keeps_laws}
 use Rattle.mm_rules.proofs.States.Lookups.{waiter_waits}
 use Rattle.mm_settle_lemmas.proofs.Lemmas.Acquired.{queue_else}
-use Rattle.mm_settled.specs.Calls.{Locks, WaitsFrom, OthersKeepVerdicts}
+use Rattle.mm_settled.specs.Calls.{Locks, WaitsFrom, Declines}
 use Rattle.mm_settled.specs.declared.reply.Locked.TheVariants as locked
 use Rattle.mm_manager.specs.LockState.{LockState}
 use Rattle.mm_manager.specs.Calls.{Gets, Queues, Requests, Tries}
@@ -20,15 +21,13 @@ use Rattle.mm_manager.specs.Permit.{event_limit, may_wait}
 use Rattle.mm_manager.specs.declared.refusal.Refusal.{Refusal}
 use Rattle.mm_manager.specs.declared.reply.Lock.{Lock}
 use Rattle.mm_manager.specs.declared.reply.Lock.TheVariants as lock
-use Rattle.mm_manager.specs.private.Handed.{DueWait}
 use Rattle.mm_manager.specs.private.Numbers.{AreNumbered}
 use Rattle.mm_manager.specs.private.Room.{HasReserve}
 use Rattle.mm_manager.specs.declared.reply.TryLock.{TryLock}
 use Rattle.mm_manager.specs.declared.reply.TryLock.TheVariants as tried
-use Rattle.mm_manager.proofs.Lemmas.Handed.{waits_something, is_waiting_for}
 use Rattle.mm_manager.proofs.Lemmas.Names.{waited_is_owned}
 use Rattle.mm_manager.proofs.Lemmas.Numbers.{some_not_none}
-use Rattle.mm_manager.proofs.Lemmas.Room.{granted_room, waits_room}
+use Rattle.mm_manager.proofs.Lemmas.Room.{granted_room, waits_room, declines_room}
 use Rattle.mm_manager.proofs.Lemmas.Requests.{IsGranted, IsQueued, granted_is, queued_is, interned_name, owned_is_known, free_is_new}
 
 -- ---- what stays in the table
@@ -40,7 +39,6 @@ pub record RequestKeeps (s u : TableState) : Type 0 where
   pub laws : Laws u
   pub room : HasReserve u
   pub config : u.config ≡ s.config
-  pub still : (m q : ℕ) → wait_of s m ≡ Some q → wait_of u m ≡ Some q
 
 pub label_left : (s : TableState) → may_wait s ≡ true → 2 * s.totals.accepted + 2 ≤ s.config.label_limit
 label_left s label = (let below : s.totals.accepted < s.config.label_limit / 2 = ltb-true s.totals.accepted (s.config.label_limit / 2) label in omega (arith, below))
@@ -59,7 +57,6 @@ granted_keeps s u k n may locks =
       laws = laws;
       room = granted_room s u k n may.room laws may.below locks;
       config = granted.config;
-      still = λ m q waits. ap (λ ws. waited_for ws m) granted.waits ∙ waits;
     }
 
 waits_keeps : (s u : TableState) (k h : Key) (n : ℕ) → MayRequest s → may_wait s ≡ true → WaitsFrom s k n h u → RequestKeeps s u
@@ -70,19 +67,26 @@ waits_keeps s u k h n may label from =
       laws = laws;
       room = waits_room s u k h n may.room laws may.below (label_left s label) from;
       config = queued.config;
-      still = λ m q waits. elim (cases_eq m k.process) [
-        | inl same ↦ absurd (some_not_none (wait_of s m) q waits (ap (wait_of s) same ∙ queued.active))
-        | inr apart ↦ queued_else s u k h n queued m apart ∙ waits
-      ];
+    }
+
+declines_keeps : (s u : TableState) (k h : Key) (n : ℕ) → MayRequest s → may_wait s ≡ true → Declines s k n h u → RequestKeeps s u
+declines_keeps s u k h n may label declined =
+    let from = declined.waited in
+    let settled = (event_keeps Settle from.mid declined.settled (Ok from.answer) from.settle (event_keeps (Acquire k n) s from.mid (Ok (acquired.Waits h from.label)) from.event may.laws).laws).laws in
+    let laws : Laws u = subst (λ (t : TableState). Laws t) (sym declined.back) (take_back_keeps_laws declined.settled k.process settled declined.verdict) in
+    record {
+      laws = laws;
+      room = declines_room s u k h n may.room laws may.below (label_left s label) declined;
+      config = declined.same.config;
     }
 
 same_keeps : (s u : TableState) → MayRequest s → u ≡ s → RequestKeeps s u
-same_keeps s u may same = subst (λ v. RequestKeeps s v) (sym same) record { laws = may.laws; room = may.room; config = refl; still = λ m q waits. waits }
+same_keeps s u may same = subst (λ v. RequestKeeps s v) (sym same) record { laws = may.laws; room = may.room; config = refl }
 
 pub request_keeps : (s u : TableState) (t named : NameTable) (k : Key) (name : List ℕ) (answer : Lock) → MayRequest s → Requests s t k name answer u named → RequestKeeps s u
 request_keeps s u t named k name lock.Granted may asks = granted_keeps s u k asks.0 may asks.2
 request_keeps s u t named k name (lock.Waits h) may asks = waits_keeps s u k h asks.1.0 may asks.0 asks.1.2.0
-request_keeps s u t named k name (lock.Deadlock h) may asks = waits_keeps s u k h asks.1.0 may asks.0 asks.1.2.0
+request_keeps s u t named k name (lock.Deadlock h) may asks = declines_keeps s u k h asks.1.0 may asks.0 asks.1.2
 request_keeps s u t named k name lock.Held may asks = same_keeps s u may asks.1
 
 pub asked_keeps : (s u : TableState) (t named : NameTable) (k : Key) (name : List ℕ) (reply : Result Lock Refusal) → MayRequest s
@@ -99,14 +103,6 @@ pub try_keeps : (s u : TableState) (t named : NameTable) (k : Key) (name : List 
     → ((answer : TryLock) → reply ≡ Ok answer → Tries s t k name answer u named) → ((e : Refusal) → reply ≡ Err e → u ≡ s) → RequestKeeps s u
 try_keeps s u t named k name (Ok answer) may made refused = tried_keeps s u t named k name answer may (made answer refl)
 try_keeps s u t named k name (Err e) may made refused = same_keeps s u may (refused e refl)
-
--- the marks stay, since whoever asks has none
-pub due_still : (s u : TableState) (due : List Bool) (k : Key) → RequestKeeps s u → OthersKeepVerdicts s u k.process → wait_of s k.process ≡ None → DueWait s due → DueWait u due
-due_still s u due k keeps others idle waits p marked =
-    let was = waits p marked in
-    let before = waits_something s p was.0 in
-    let apart : p ≢ k.process = λ same. some_not_none (wait_of s p) before.0 before.1 (ap (wait_of s) same ∙ idle) in
-    (is_waiting_for u p before.0 (keeps.still p before.0 before.1), others p apart ∙ was.1)
 
 -- ---- by names
 

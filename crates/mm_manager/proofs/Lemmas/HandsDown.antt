@@ -8,25 +8,23 @@ use Rattle.mm_arena.specs.declared.key.Key.{Key}
 use Rattle.mm_lists.specs.Members.{Among}
 use Rattle.mm_lists.proofs.Lemmas.Range.{among_range}
 use Rattle.mm_rules.specs.declared.reply.Released.{Released}
-use Rattle.mm_rules.specs.TableState.{TableState, is_live, has_verdict, owner_of, owns, wait_of, waited_for, waiters_of}
+use Rattle.mm_rules.specs.TableState.{TableState, is_live, owner_of, owns, wait_of, waited_for, waiters_of}
 use Rattle.mm_rules.specs.Change.{hand_over}
-use Rattle.mm_rules.specs.Event.{Event, Answer, Release, Settle, release_tests, release_answer}
+use Rattle.mm_rules.specs.Event.{Event, Answer, Release, Finish, Settle, release_tests, release_answer}
 use Rattle.mm_rules.specs.Laws.{Laws}
 use Rattle.mm_rules.proofs.States.EventsKeepLaws.{event_keeps}
 use Rattle.mm_rules.proofs.States.Lookups.{waits_here, held}
 use Rattle.mm_rules.proofs.States.Release.{owns_gives}
-use Rattle.mm_settled.specs.Calls.{Made, MakesEnd, Rests}
+use Rattle.mm_settled.specs.Calls.{Made, Rests}
 use Rattle.mm_settled.specs.Grants.{waits_for, to_waiter, grant_of, grants, EndsWaits}
-use Rattle.mm_settled.specs.declared.reply.EndKind.{EndKind}
 use Rattle.mm_settled.specs.declared.reply.Grant.{Grant}
 use Rattle.mm_settled.proofs.Lemmas.Accepted.{accepted}
-use Rattle.mm_settled.proofs.Lemmas.EitherEnd.{end_made, end_keeps, end_was_live, end_hands_on}
-use Rattle.mm_settled.proofs.Lemmas.Ends.{HandsOn, release_hands_on, owner_in_range}
+use Rattle.mm_settled.proofs.Lemmas.Ends.{HandsOn, release_hands_on, finish_hands_on, owner_in_range}
 use Rattle.mm_settled.proofs.Lemmas.Grants.{filter_map_keeps}
 use Rattle.mm_manager.specs.private.HandsDown.{HandsDown, IsEnding, IsReleased}
 use Rattle.mm_manager.proofs.Lemmas.Numbers.{some_not_none}
 use Rattle.mm_manager.proofs.Lemmas.Limits.{owner_owns}
-use Rattle.mm_manager.proofs.Lemmas.Owners.{RestsAlike, rests_alike, not_mine}
+use Rattle.mm_manager.proofs.Lemmas.Owners.{RestsAlike, rests_alike, not_mine, finish_was_live}
 use Rattle.mm_manager.proofs.Lemmas.Requests.{owner_is_key}
 
 -- the laws hold after it
@@ -49,7 +47,7 @@ grant_listed s u q h waited owned within =
 
 -- an event by which the numbers that pass p are handed over, and nothing or a settle after it
 module _ (s mid u : TableState) (n : ℕ) (p : ℕ → Bool) (Loses : ℕ → Key → Type 0) (granted : List Grant) (laws : Laws u) (on : HandsOn s n p mid) (rests : Rests mid u)
-    (ends : EndsWaits s u n granted) (are : granted ≡ grants s u) (same : (v : ℕ) → has_verdict u v ≡ has_verdict mid v) (gone : (q : ℕ) (h : Key) → Loses q h → ¬ (owner_of mid q ≡ Some h)) (lost : (q : ℕ) (h : Key) → owner_of s q ≡ Some h → ¬ Loses q h → p q ≡ false) where
+    (ends : EndsWaits s u n granted) (are : granted ≡ grants s u) (gone : (q : ℕ) (h : Key) → Loses q h → ¬ (owner_of mid q ≡ Some h)) (lost : (q : ℕ) (h : Key) → owner_of s q ≡ Some h → ¬ Loses q h → p q ≡ false) where
   alike : RestsAlike mid u
   alike = rests_alike mid u rests
 
@@ -91,7 +89,6 @@ module _ (s mid u : TableState) (n : ℕ) (p : ℕ → Bool) (Loses : ℕ → Ke
     waited = λ g among. (ends.each g among).waited;
     goes_on = λ g among. (ends.each g among).goes_on;
     owns = λ g among kept. (ends.each g among).owns;
-    verdicts = λ v apart. same v ∙ on.verdicts v apart;
     lost = λ q h loses owned. gone q h loses (sym (owner q) ∙ owned);
     own = wait n ∙ on.own;
   }
@@ -126,20 +123,19 @@ module _ (s u : TableState) (k : Key) (granted : List Grant) (laws : Laws s) (en
       let on = release_hands_on s made.mid k r answer laws made.event in
       let mine = not-false (owns s k.process r) done.passed.1.1.1.1.0 in
       let owner = owner_is_key s k r laws (not-false (is_live s k) done.passed.1.0) mine in
-      hands_down s made.mid u k.process (λ q. nat_eq q r) (IsReleased k r) granted (made_laws (Release k r) s u answer laws made) on made.rests ends are made.verdicts
+      hands_down s made.mid u k.process (λ q. nat_eq q r) (IsReleased k r) granted (made_laws (Release k r) s u answer laws made) on made.rests ends are
       (λ q h loses owned. gone_by s made.mid k (λ i. nat_eq i r) r laws on (eq-eqb r r refl) mine (ap (owner_of made.mid) (sym loses.1) ∙ owned ∙ ap Some loses.0))
       (λ q h owned apart. elim (cases_eq q r) [
         | inl same ↦ absurd (apart (let both : Some h ≡ Some k = sym owned ∙ ap (owner_of s) same ∙ owner in let key : h ≡ k = cc in (key, same)))
         | inr other ↦ ne_eqb q r other
       ])
 
-  pub end_hands_down : (kind : EndKind) → MakesEnd kind k s (Ok tt) u → HandsDown s k.process (IsEnding k) granted u
-  end_hands_down kind makes =
-      let made = end_made kind s u k makes in
-      let on = end_hands_on kind s made.mid k laws made.step in
-      hands_down s made.mid u k.process (owns s k.process) (IsEnding k) granted (rest_laws made.mid u (end_keeps kind s made.mid k laws made.step) made.rests) on made.rests ends are made.verdicts
+  pub finish_hands_down : Made (Finish k) s tt u → HandsDown s k.process (IsEnding k) granted u
+  finish_hands_down made =
+      let on = finish_hands_on s made.mid k laws made.event in
+      hands_down s made.mid u k.process (owns s k.process) (IsEnding k) granted (made_laws (Finish k) s u tt laws made) on made.rests ends are
       (λ q h loses owned. gone_all s made.mid k q laws on (owned ∙ ap Some loses))
-      (other_key s k laws (end_was_live kind s made.mid k made.step))
+      (other_key s k laws (finish_was_live s made.mid k made.event))
 
 in_none : {P : Type 0} (gs : List Grant) (g : Grant) → gs ≡ [] → Among g gs → P
 in_none [] g is among = absurd among

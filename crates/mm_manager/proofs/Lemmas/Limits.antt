@@ -2,7 +2,7 @@
 use Rattle.std.proofs.Common.{◌≡◌, ◌≤◌, ◌<◌, ◌+◌, ◌*◌, ◌^◌, ◌∷◌, ℕ, Bool, true, false, not, List, [], Option, Some, None, is_some, length, count_by, nat_eq, nat_le, Result, Ok, Err, MatchBool, inl, inr, refl, sym, ap, subst, ◌∙◌, arith}
 use Rattle.std.specs.List.{AllByRecursion}
 use Rattle.std.specs.Option.{option_map_or}
-use Rattle.std.proofs.lemmas.Bool.{and_parts, not-false, eq-eqb, lt-leb, le-leb, lt-ltb}
+use Rattle.std.proofs.lemmas.Bool.{and_parts, eq-eqb, lt-leb, le-leb, lt-ltb}
 use Rattle.std.proofs.lemmas.List.Sums.{count_by-le-length}
 use Rattle.mm_arena.specs.declared.key.Key.{Key}
 use Rattle.mm_lists.specs.Members.{Among}
@@ -11,19 +11,15 @@ use Rattle.mm_lists.proofs.Lemmas.Filter.{filter_gives}
 use Rattle.mm_rules.specs.declared.refusal.Refusal.{Refusal}
 use Rattle.mm_rules.specs.declared.refusal.Refusal.TheVariants.{CountsExhausted, Stale, NoResource, Waiting, Carried}
 use Rattle.mm_rules.specs.TableState.{TableState, Wait, is_live, is_waiting, has_verdict, holder_of, owner_of, owns, resources_of, wait_of, waiters_of}
-use Rattle.mm_rules.specs.Change.{label_against, block_fits, give_to_fits, hand_over, hand_over_fits, vacate, vacate_fits, abort}
-use Rattle.mm_rules.specs.Event.{Tests, Release, Finish, Abort, Gives, Step, allowed, counts_exhausted, decided, outcome, resource_tests, acquire_tests, acquire_answer, acquire_change, release_tests, release_answer, finish_tests, abort_tests}
+use Rattle.mm_rules.specs.Change.{label_against, block_fits, give_to_fits, hand_over, hand_over_fits, vacate, vacate_fits}
+use Rattle.mm_rules.specs.Event.{Tests, Release, Finish, Gives, Step, allowed, counts_exhausted, decided, outcome, resource_tests, acquire_tests, acquire_answer, acquire_change, release_tests, release_answer, finish_tests}
 use Rattle.mm_rules.specs.Laws.{Laws}
 use Rattle.mm_rules.specs.Withdraw.{renew_fits, shown_process, shows_waiting, withdraw, withdraw_tests, Withdraws}
-use Rattle.mm_rules.proofs.States.Lookups.{none_of_is_some, waits_here}
+use Rattle.mm_rules.proofs.States.Lookups.{waits_here}
 use Rattle.mm_rules.proofs.States.Vacate.{live_process}
-use Rattle.mm_settled.specs.Calls.{Locks, MakesEnd, MakesWithdrawal, Refuses, has_room}
-use Rattle.mm_settled.specs.declared.reply.EndKind.{EndKind}
-use Rattle.mm_settled.specs.declared.reply.EndKind.TheVariants as way
-use Rattle.mm_settled.proofs.Lemmas.Accepted.{accepted}
+use Rattle.mm_settled.specs.Calls.{Locks, MakesWithdrawal, Refuses, has_room}
 use Rattle.mm_settled.proofs.Lemmas.Ends.{owner_in_range}
 use Rattle.mm_manager.specs.Permit.{event_limit}
-use Rattle.mm_manager.specs.private.Handed.{MayEnd}
 use Rattle.mm_manager.specs.private.Room.{LabelsWithin, HasReserve}
 use Rattle.mm_manager.proofs.Lemmas.Fewer.{live_to_end}
 
@@ -114,16 +110,6 @@ module _ (s : TableState) (labels : LabelsWithin s s.config.label_limit) where
 
 -- ---- the end of a transaction, and a release
 
--- a refused end changes nothing
-pub end_refused_same : (kind : EndKind) (s u : TableState) (k : Key) (e : Refusal) → MakesEnd kind k s (Err e) u → u ≡ s
-end_refused_same way.Finish s u k e refuses = refuses.0
-end_refused_same way.Abort s u k e refuses = refuses.0
-
--- an accepted one may be made
-pub end_may : (kind : EndKind) (s u : TableState) (k : Key) → MakesEnd kind k s (Ok tt) u → MayEnd kind s k.process
-end_may way.Finish s u k made = none_of_is_some (wait_of s k.process) (accepted (finish_tests s k) s tt (vacate s k.process) tt made.mid made.event).passed.1.1.0
-end_may way.Abort s u k made = not-false (has_verdict s k.process) (accepted (abort_tests s k) s tt (abort s k.process) tt made.mid made.event).passed.1.1.0
-
 -- where there is room, the table refuses by itself
 by_room : (b : Bool) (P Q : Type 0) → b ≡ true → MatchBool b P Q → P
 by_room true P Q is given = given
@@ -143,7 +129,7 @@ module _ (s : TableState) (k : Key) (laws : Laws s) (room : HasReserve s) (live 
     not_waiting : {P : Type 0} → is_waiting s k.process ≡ true → P
     not_waiting = never_true (is_waiting s k.process) (ap is_some idle)
 
-    finish_never : (u : TableState) (e : Refusal) → Refuses (Finish k) s e u → ⊥
+    pub finish_never : (u : TableState) (e : Refusal) → Refuses (Finish k) s e u → ⊥
     finish_never u e refuses =
         each_true Never (finish_tests s k) e
         ((λ is. not_counted is), ((λ is. not_stale is), ((λ is. not_waiting is), ((λ is. never_true (not (vacate_fits s k.process)) (not_of (vacate_fits s k.process) (vacate_has_room s room.labels k.process)) is), tt))))
@@ -167,25 +153,7 @@ module _ (s : TableState) (k : Key) (laws : Laws s) (room : HasReserve s) (live 
           )
           (refused_tests (release_tests s k r) s (release_answer (waiters_of s r)) (hand_over s r) e s (by_room (has_room s) (Step (Release k r) s (Err e) s) (e ≡ CountsExhausted) can.room refuses.1))
 
-  -- ---- an abort, and a wait that is taken back
-
-  abort_never : has_verdict s k.process ≡ true → (u : TableState) (e : Refusal) → Refuses (Abort k) s e u → ⊥
-  abort_never verdict u e refuses =
-      each_true Never (abort_tests s k) e (
-        (λ is. not_counted is),
-        (
-          (λ is. not_stale is),
-          (
-            (λ is. never_true (not (has_verdict s k.process)) (not_of (has_verdict s k.process) verdict) is),
-            ((λ is. never_true (not (vacate_fits s k.process)) (not_of (vacate_fits s k.process) (vacate_has_room s room.labels k.process)) is), tt),
-          ),
-        ),
-      )
-      (refused_tests (abort_tests s k) s tt (abort s k.process) e s (by_room (has_room s) (Step (Abort k) s (Err e) s) (e ≡ CountsExhausted) can.room refuses.1))
-
-  pub end_never : (kind : EndKind) → MayEnd kind s k.process → (u : TableState) (e : Refusal) → MakesEnd kind k s (Err e) u → ⊥
-  end_never way.Finish idle u e refuses = finish_never idle u e refuses
-  end_never way.Abort verdict u e refuses = abort_never verdict u e refuses
+  -- ---- a wait that is taken back
 
   abbrev IsCarried : Refusal → Type 0
   IsCarried e = e ≡ Carried

@@ -8,44 +8,45 @@ use Rattle.mm_rules.specs.declared.refusal.Refusal.TheVariants.{Stale}
 use Rattle.mm_rules.specs.TableState.{TableState, is_live, has_verdict, wait_of, private_of, public_of}
 use Rattle.mm_rules.specs.Event.{mode_of, state_of}
 use Rattle.mm_manager.specs.Permit.{event_limit, may_ask, may_ask_in, may_cancel, may_cancel_in, may_count}
-use Rattle.mm_manager.specs.declared.refusal.Refusal.TheVariants.{NoTransaction, MustAbort, Waiting, NotWaiting, CountsFull}
+use Rattle.mm_manager.specs.declared.refusal.Refusal.TheVariants.{NoTransaction, Waiting, NotWaiting, CountsFull}
 
 -- a live transaction that waits for nothing
 pub record IsActive (s : TableState) (k : Key) : Type 0 where
   pub live : is_live s k ≡ true
   pub idle : wait_of s k.process ≡ None
 
--- a live transaction that waits, and whether it has a verdict
-pub record IsWaiting (s : TableState) (k : Key) (v : Bool) : Type 0 where
+-- a live transaction that waits
+pub record IsWaiting (s : TableState) (k : Key) : Type 0 where
   pub live : is_live s k ≡ true
   pub number : ℕ
   pub waits : wait_of s k.process ≡ Some number
-  pub verdict : has_verdict s k.process ≡ v
 
 -- ---- by what the calls test
 
-asks_in : (o : Option ℕ) (v : Bool) → may_ask_in o v ≡ Ok tt → o ≡ None
-asks_in None v may = refl
-asks_in (Some n) true may = (let never : Err MustAbort ≡ Ok tt = may in absurd (cc))
-asks_in (Some n) false may = (let never : Err Waiting ≡ Ok tt = may in absurd (cc))
+asks_in : (o : Option ℕ) → may_ask_in o ≡ Ok tt → o ≡ None
+asks_in None may = refl
+asks_in (Some n) may = (let never : Err Waiting ≡ Ok tt = may in absurd (cc))
 
-asks_by : (s : TableState) (k : Key) (b : Bool) → is_live s k ≡ b → (if b then may_ask_in (wait_of s k.process) (has_verdict s k.process) else Err NoTransaction) ≡ Ok tt → IsActive s k
-asks_by s k true live may = record { live = live; idle = asks_in (wait_of s k.process) (has_verdict s k.process) may }
+asks_by : (s : TableState) (k : Key) (b : Bool) → is_live s k ≡ b → (if b then may_ask_in (wait_of s k.process) else Err NoTransaction) ≡ Ok tt → IsActive s k
+asks_by s k true live may = record { live = live; idle = asks_in (wait_of s k.process) may }
 asks_by s k false dead may = (let never : Err NoTransaction ≡ Ok tt = may in absurd (cc))
 
 pub asks : (s : TableState) (k : Key) → may_ask s k ≡ Ok tt → IsActive s k
 asks s k may = asks_by s k (is_live s k) refl may
 
-cancels_in : (s : TableState) (k : Key) (o : Option ℕ) (v : Bool) → is_live s k ≡ true → wait_of s k.process ≡ o → has_verdict s k.process ≡ v → may_cancel_in o v ≡ Ok tt → IsWaiting s k false
-cancels_in s k None v live waits verdict may = (let never : Err NotWaiting ≡ Ok tt = may in absurd (cc))
-cancels_in s k (Some n) true live waits verdict may = (let never : Err MustAbort ≡ Ok tt = may in absurd (cc))
-cancels_in s k (Some n) false live waits verdict may = record { live = live; number = n; waits = waits; verdict = verdict }
+-- and so an active one may ask
+pub may_ask_of : (s : TableState) (k : Key) → is_live s k ≡ true → wait_of s k.process ≡ None → may_ask s k ≡ Ok tt
+may_ask_of s k live idle = ap (λ b. if b then may_ask_in (wait_of s k.process) else Err NoTransaction) live ∙ ap may_ask_in idle
 
-cancels_by : (s : TableState) (k : Key) (b : Bool) → is_live s k ≡ b → (if b then may_cancel_in (wait_of s k.process) (has_verdict s k.process) else Err NoTransaction) ≡ Ok tt → IsWaiting s k false
-cancels_by s k true live may = cancels_in s k (wait_of s k.process) (has_verdict s k.process) live refl refl may
+cancels_in : (s : TableState) (k : Key) (o : Option ℕ) → is_live s k ≡ true → wait_of s k.process ≡ o → may_cancel_in o ≡ Ok tt → IsWaiting s k
+cancels_in s k None live waits may = (let never : Err NotWaiting ≡ Ok tt = may in absurd (cc))
+cancels_in s k (Some n) live waits may = record { live = live; number = n; waits = waits }
+
+cancels_by : (s : TableState) (k : Key) (b : Bool) → is_live s k ≡ b → (if b then may_cancel_in (wait_of s k.process) else Err NoTransaction) ≡ Ok tt → IsWaiting s k
+cancels_by s k true live may = cancels_in s k (wait_of s k.process) live refl may
 cancels_by s k false dead may = (let never : Err NoTransaction ≡ Ok tt = may in absurd (cc))
 
-pub cancels : (s : TableState) (k : Key) → may_cancel s k ≡ Ok tt → IsWaiting s k false
+pub cancels : (s : TableState) (k : Key) → may_cancel s k ≡ Ok tt → IsWaiting s k
 cancels s k may = cancels_by s k (is_live s k) refl may
 
 -- ---- by the mode that the table tells
@@ -73,39 +74,29 @@ active_mode (Some n) false is = (let never : mode.Waiting n ≡ mode.Active = is
 pub told_active : (s : TableState) (k : Key) (state : State) → IsTold s k state → state.mode ≡ mode.Active → IsActive s k
 told_active s k state is active = record { live = is.live; idle = active_mode (wait_of s k.process) (has_verdict s k.process) (is.mode ∙ active) }
 
-waiting_mode : (s : TableState) (k : Key) (n : ℕ) (o : Option ℕ) (v : Bool) → wait_of s k.process ≡ o → has_verdict s k.process ≡ v → mode_of o v ≡ mode.Waiting n
-    → (wait_of s k.process ≡ Some n) × (has_verdict s k.process ≡ false)
-waiting_mode s k n None v waits verdict is = (let never : mode.Active ≡ mode.Waiting n = is in absurd (cc))
-waiting_mode s k n (Some m) true waits verdict is = (let never : mode.Convicted m ≡ mode.Waiting n = is in absurd (cc))
-waiting_mode s k n (Some m) false waits verdict is = (let same : m ≡ n = cc in (waits ∙ ap Some same, verdict))
-
 -- what it waits for, by its mode
-pub record Waits (s : TableState) (k : Key) (n : ℕ) (v : Bool) : Type 0 where
+pub record Waits (s : TableState) (k : Key) (n : ℕ) : Type 0 where
   pub live : is_live s k ≡ true
   pub waits : wait_of s k.process ≡ Some n
-  pub verdict : has_verdict s k.process ≡ v
 
-pub told_waiting : (s : TableState) (k : Key) (state : State) (n : ℕ) → IsTold s k state → state.mode ≡ mode.Waiting n → Waits s k n false
-told_waiting s k state n is waiting =
-    let both = waiting_mode s k n (wait_of s k.process) (has_verdict s k.process) refl refl (is.mode ∙ waiting) in
-    record { live = is.live; waits = both.0; verdict = both.1 }
+waiting_mode : (n : ℕ) (o : Option ℕ) (v : Bool) → mode_of o v ≡ mode.Waiting n → o ≡ Some n
+waiting_mode n None v is = (let never : mode.Active ≡ mode.Waiting n = is in absurd (cc))
+waiting_mode n (Some m) true is = (let never : mode.Convicted m ≡ mode.Waiting n = is in absurd (cc))
+waiting_mode n (Some m) false is = (let same : m ≡ n = cc in ap Some same)
 
-convicted_mode : (s : TableState) (k : Key) (n : ℕ) (o : Option ℕ) (v : Bool) → wait_of s k.process ≡ o → has_verdict s k.process ≡ v → mode_of o v ≡ mode.Convicted n
-    → (wait_of s k.process ≡ Some n) × (has_verdict s k.process ≡ true)
-convicted_mode s k n None v waits verdict is = (let never : mode.Active ≡ mode.Convicted n = is in absurd (cc))
-convicted_mode s k n (Some m) true waits verdict is = (let same : m ≡ n = cc in (waits ∙ ap Some same, verdict))
-convicted_mode s k n (Some m) false waits verdict is = (let never : mode.Waiting m ≡ mode.Convicted n = is in absurd (cc))
+pub told_waiting : (s : TableState) (k : Key) (state : State) (n : ℕ) → IsTold s k state → state.mode ≡ mode.Waiting n → Waits s k n
+told_waiting s k state n is waiting = record { live = is.live; waits = waiting_mode n (wait_of s k.process) (has_verdict s k.process) (is.mode ∙ waiting) }
 
-pub told_convicted : (s : TableState) (k : Key) (state : State) (n : ℕ) → IsTold s k state → state.mode ≡ mode.Convicted n → Waits s k n true
-told_convicted s k state n is convicted =
-    let both = convicted_mode s k n (wait_of s k.process) (has_verdict s k.process) refl refl (is.mode ∙ convicted) in
-    record { live = is.live; waits = both.0; verdict = both.1 }
+convicted_mode : (n : ℕ) (o : Option ℕ) (v : Bool) → mode_of o v ≡ mode.Convicted n → o ≡ Some n
+convicted_mode n None v is = (let never : mode.Active ≡ mode.Convicted n = is in absurd (cc))
+convicted_mode n (Some m) true is = (let same : m ≡ n = cc in ap Some same)
+convicted_mode n (Some m) false is = (let never : mode.Waiting m ≡ mode.Convicted n = is in absurd (cc))
 
-pub may_cancel_of : (s : TableState) (k : Key) (n : ℕ) → Waits s k n false → may_cancel s k ≡ Ok tt
-may_cancel_of s k n is =
-    ap (λ b. if b then may_cancel_in (wait_of s k.process) (has_verdict s k.process) else Err NoTransaction) is.live
-    ∙ ap (λ o. may_cancel_in o (has_verdict s k.process)) is.waits
-    ∙ ap (may_cancel_in (Some n)) is.verdict
+pub told_convicted : (s : TableState) (k : Key) (state : State) (n : ℕ) → IsTold s k state → state.mode ≡ mode.Convicted n → Waits s k n
+told_convicted s k state n is convicted = record { live = is.live; waits = convicted_mode n (wait_of s k.process) (has_verdict s k.process) (is.mode ∙ convicted) }
+
+pub may_cancel_of : (s : TableState) (k : Key) (n : ℕ) → Waits s k n → may_cancel s k ≡ Ok tt
+may_cancel_of s k n is = ap (λ b. if b then may_cancel_in (wait_of s k.process) else Err NoTransaction) is.live ∙ ap may_cancel_in is.waits
 
 -- ---- an event may be counted
 

@@ -61,7 +61,6 @@ module _ (old new : LockState) (k : Key) (Loses : ℕ → Key → Type 0) (Loses
           inl (waits.0, kept_name old.names new.table new.names keep waits.0 owner.0 owner.1 ∙ waits.1, still)
       | inr g ↦ inr (g.0.key, g.2, (g.0, g.1, refl, ap (name_of old.names) g.3 ∙ waits.1))
     ];
-    verdicts = down.verdicts;
     config = down.config;
     numbers = keep.numbers;
     name_bytes = keep.name_bytes;

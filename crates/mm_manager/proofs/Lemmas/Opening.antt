@@ -1,17 +1,15 @@
 -- A manager that was just opened.
-use Rattle.std.proofs.Common.{◌≡◌, ◌+◌, ℕ, zero, suc, Bool, true, false, cond, None, is_some, count_by, map, replicate, refl, sym, ap, ◌∙◌, arith, slice_index_or}
+use Rattle.std.proofs.Common.{◌≡◌, ◌+◌, ℕ, zero, suc, Bool, false, cond, None, is_some, count_by, map, replicate, refl, ap, arith, slice_index_or}
 use Rattle.std.specs.List.{range_with_len}
 use Rattle.std.proofs.lemmas.List.Sums.{sum_by-cons}
 use Rattle.std.proofs.lemmas.List.{length-replicate}
 use Rattle.mm_lists.proofs.Lemmas.Set.{read_replicate}
-use Rattle.mm_bit_set.specs.BitSet.{has}
 use Rattle.mm_label.specs.Label.{Label, opening_label}
 use Rattle.mm_names.specs.Names.{nameless}
 use Rattle.mm_rules.specs.declared.config.Config.{Config}
 use Rattle.mm_rules.specs.TableState.{IsInRange, opening, public_of}
-use Rattle.mm_manager.specs.declared.parts.Parts.{Parts}
-use Rattle.mm_manager.specs.private.Handed.{AreParts}
-use Rattle.mm_manager.specs.private.Lists.{Fits}
+use Rattle.mm_manager.specs.declared.named.NamedTable.{NamedTable}
+use Rattle.mm_manager.specs.private.Handed.{IsSound}
 use Rattle.mm_manager.specs.private.Numbers.{AreNumbered}
 use Rattle.mm_manager.specs.private.Room.{HasReserve}
 
@@ -49,11 +47,5 @@ opening_numbered c name_bytes = record {
   named = λ n. ((λ none. read_replicate None c.resources n), (λ none. read_replicate None c.resources n));
 }
 
-pub opening_parts : (c : Config) (name_bytes count : ℕ) (p : Parts) → IsInRange c → p.named.table.table ≡ opening c → p.named.names ≡ nameless c.resources name_bytes
-    → Fits c p.lists → p.lists.due.items ≡ replicate count false → AreParts p
-opening_parts c name_bytes count p range table names fits due = record {
-  numbered = rw (table, names) (opening_numbered c name_bytes);
-  fits = rw table fits;
-  due = λ q marked. (let never : true ≡ false = sym marked ∙ ap (λ ds. has ds q) due ∙ read_replicate false count q in absurd (cc));
-  room = rw table (opening_room c range);
-}
+pub opening_sound : (c : Config) (name_bytes : ℕ) (t : NamedTable) → IsInRange c → t.table.table ≡ opening c → t.names ≡ nameless c.resources name_bytes → IsSound t
+opening_sound c name_bytes t range table names = record { numbered = rw (table, names) (opening_numbered c name_bytes); left = rw table (opening_room c range) }

@@ -1,16 +1,16 @@
 -- What a release and the end of a transaction leave of owners and of the configuration.
 use Rattle.std.proofs.Common.{◌≡◌, ℕ, false, Some, None, Ok, IsTrue, inl, inr, ap, ◌∙◌, slice_index_or}
-use Rattle.std.proofs.lemmas.Bool.{cases_Bool, ne_eqb}
+use Rattle.std.proofs.lemmas.Bool.{cases_Bool, ne_eqb, not-false}
 use Rattle.mm_arena.specs.declared.key.Key.{Key}
 use Rattle.mm_rules.specs.declared.reply.Released.{Released}
 use Rattle.mm_rules.specs.TableState.{TableState, is_live, owner_of, owns}
-use Rattle.mm_rules.specs.Event.{Release}
+use Rattle.mm_rules.specs.Change.{vacate}
+use Rattle.mm_rules.specs.Event.{Release, Finish, Step, finish_tests}
 use Rattle.mm_rules.specs.Laws.{Laws}
 use Rattle.mm_rules.proofs.States.SettleKeeps.{settle_keeps}
-use Rattle.mm_settled.specs.Calls.{Made, MakesEnd, Rests}
-use Rattle.mm_settled.specs.declared.reply.EndKind.{EndKind}
-use Rattle.mm_settled.proofs.Lemmas.EitherEnd.{end_made, end_was_live, end_hands_on}
-use Rattle.mm_settled.proofs.Lemmas.Ends.{release_hands_on}
+use Rattle.mm_settled.specs.Calls.{Made, Rests}
+use Rattle.mm_settled.proofs.Lemmas.Accepted.{accepted}
+use Rattle.mm_settled.proofs.Lemmas.Ends.{release_hands_on, finish_hands_on}
 use Rattle.mm_manager.proofs.Lemmas.Requests.{owner_is_key}
 
 -- nothing or a settle follows: owners, waits and configuration stay
@@ -44,12 +44,15 @@ not_mine s k q laws live other = elim (cases_Bool (owns s k.process q)) [
   | inr apart ↦ apart
 ]
 
-pub end_leaves : (kind : EndKind) (s new : TableState) (k : Key) → Laws s → MakesEnd kind k s (Ok tt) new → LeavesOwners s (λ q. owner_of s q ≡ Some k) new
-end_leaves kind s new k laws makes =
-    let made = end_made kind s new k makes in
-    let on = end_hands_on kind s made.mid k laws made.step in
+-- who finishes was live
+pub finish_was_live : (s mid : TableState) (k : Key) → Step (Finish k) s (Ok tt) mid → IsTrue (is_live s k)
+finish_was_live s mid k step = not-false (is_live s k) (accepted (finish_tests s k) s tt (vacate s k.process) tt mid step).passed.1.0
+
+pub finish_leaves : (s new : TableState) (k : Key) → Laws s → Made (Finish k) s tt new → LeavesOwners s (λ q. owner_of s q ≡ Some k) new
+finish_leaves s new k laws made =
+    let on = finish_hands_on s made.mid k laws made.event in
     let alike = rests_alike made.mid new made.rests in
     record {
       config = alike.config ∙ on.config;
-      others = λ q other. ap (λ os. slice_index_or os q None) alike.owners ∙ on.others q (not_mine s k q laws (end_was_live kind s made.mid k made.step) other);
+      others = λ q other. ap (λ os. slice_index_or os q None) alike.owners ∙ on.others q (not_mine s k q laws (finish_was_live s made.mid k made.event) other);
     }

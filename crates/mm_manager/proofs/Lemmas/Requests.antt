@@ -97,7 +97,7 @@ owner_is_key s k n laws live mine =
 pub free_granted : (s u : TableState) (k : Key) (n : ℕ) (answer : Locked) → owner_of s n ≡ None → Locks s k n (Ok answer) u → Locks s k n (Ok locked.Granted) u
 free_granted s u k n locked.Granted free locks = locks
 free_granted s u k n (locked.Waits h) free locks = absurd (some_not_none (owner_of s n) h (queued_is s u k h n locks.0).held free)
-free_granted s u k n (locked.Deadlock h) free locks = absurd (some_not_none (owner_of s n) h (queued_is s u k h n locks.0).held free)
+free_granted s u k n (locked.Deadlock h) free locks = absurd (some_not_none (owner_of s n) h locks.owner free)
 
 -- ---- the names
 

@@ -1,18 +1,17 @@
 -- What is left for the ends of transactions stays: no end takes from it, and a request is made only where there is enough after it.
-use Rattle.std.proofs.Common.{◌≡◌, ◌≤◌, ◌<◌, ◌+◌, ◌*◌, ℕ, Bool, true, false, not, if◌then◌else◌, length, map, fold, count_by, Option, Some, None, is_some, Ok, MatchBool, inl, inr, refl, sym, ap, subst, ◌∙◌, arith, drop, slice_set, slice_index, slice_index_or}
+use Rattle.std.proofs.Common.{◌≡◌, ◌≤◌, ◌<◌, ◌+◌, ◌*◌, ℕ, Bool, true, false, if◌then◌else◌, length, map, fold, count_by, Option, Some, None, is_some, Ok, MatchBool, inl, inr, refl, sym, ap, subst, ◌∙◌, arith, drop, slice_set, slice_index, slice_index_or}
 use Rattle.std.specs.Option.{option_map_or}
 use Rattle.std.proofs.lemmas.Bool.{cases_eq, not-false}
 use Rattle.mm_arena.specs.declared.key.Key.{Key}
 use Rattle.mm_lists.specs.Members.{NoRepeat}
-use Rattle.mm_lists.proofs.Lemmas.NoRepeat.{no_repeat_filter}
 use Rattle.mm_rules.specs.declared.reply.Acquired.TheVariants as acquired
 use Rattle.mm_rules.specs.declared.reply.Acquired.{Acquired}
 use Rattle.mm_rules.specs.declared.reply.Released.{Released}
 use Rattle.mm_rules.specs.declared.reply.Settled.{Settled}
 use Rattle.mm_rules.specs.declared.config.Config.{Config}
-use Rattle.mm_rules.specs.TableState.{TableState, is_live, is_of, is_waiting, key_of, holder_of, owner_of, public_of, resources_of, wait_of, waiters_of, waiting_processes}
-use Rattle.mm_rules.specs.Change.{activate, block, hand_over, vacate, take_back, abort, can_detect, detect, swept, total_raises}
-use Rattle.mm_rules.specs.Event.{Event, Begin, Acquire, Release, Finish, Abort, Settle, Answer, Step, Gives, Settles, settled, counts_exhausted, settle_tests, begin_tests, acquire_tests, acquire_answer, acquire_change, release_tests, release_answer, finish_tests, abort_tests}
+use Rattle.mm_rules.specs.TableState.{TableState, is_live, is_waiting, key_of, holder_of, owner_of, public_of, resources_of, wait_of, waiters_of, waiting_processes}
+use Rattle.mm_rules.specs.Change.{activate, block, hand_over, vacate, can_detect, detect, swept, total_raises}
+use Rattle.mm_rules.specs.Event.{Event, Begin, Acquire, Release, Finish, Settle, Answer, Step, Gives, Settles, settled, counts_exhausted, settle_tests, begin_tests, acquire_tests, acquire_answer, acquire_change, release_tests, release_answer, finish_tests}
 use Rattle.mm_rules.specs.Laws.{Laws}
 use Rattle.mm_rules.specs.Withdraw.{shown_process, shows_waiting, withdraw, withdraw_tests}
 use Rattle.mm_rules.proofs.States.Block.{process_of}
@@ -24,15 +23,13 @@ use Rattle.mm_rules.proofs.States.SettleKeeps.{settle_keeps}
 use Rattle.mm_rules.proofs.States.SpentKeys.{SameKeys}
 use Rattle.mm_rules.proofs.States.Vacate.{live_process}
 use Rattle.mm_rules.proofs.States.WithdrawLaws.{withdraw_counts, withdraw_leaves}
-use Rattle.mm_settled.specs.Calls.{Made, MadeWithdrawal, MakesEnd, Rests, WaitsFrom}
-use Rattle.mm_settled.specs.declared.reply.EndKind.{EndKind}
-use Rattle.mm_settled.specs.declared.reply.EndKind.TheVariants as way
+use Rattle.mm_settled.specs.Calls.{Made, MadeWithdrawal, Rests, WaitsFrom, Declines}
 use Rattle.mm_settled.proofs.Lemmas.Accepted.{IsAccepted, accepted}
 use Rattle.mm_settled.proofs.Lemmas.Ends.{owner_in_range}
 use Rattle.mm_manager.specs.Permit.{event_limit}
 use Rattle.mm_manager.specs.private.Room.{LabelsWithin, to_end, HasReserve}
 use Rattle.mm_manager.proofs.Lemmas.Labels.{activate_fewer, block_else, block_here, hand_over_keeps_labels, vacate_within, activate_within, settled_within, waits_within}
-use Rattle.mm_manager.proofs.Lemmas.Fewer.{hand_over_less, hand_over_live, vacate_less, activate_held, activate_less, few_to_end}
+use Rattle.mm_manager.proofs.Lemmas.Fewer.{hand_over_less, hand_over_live, vacate_less, activate_less, few_to_end}
 
 -- ---- what follows an event
 
@@ -117,7 +114,7 @@ release_room s u k r answer laws owned room made =
       fewer = omega (arith, less, ap to_end done.state);
     } (omega (arith, (event_counts (Release k r) s made.mid (Ok answer) made.event).2))
 
-finish_room : (s u : TableState) (k : Key) → Laws s → HasReserve s → Made (Finish k) s tt u → HasReserve u
+pub finish_room : (s u : TableState) (k : Key) → Laws s → HasReserve s → Made (Finish k) s tt u → HasReserve u
 finish_room s u k laws room made =
     let n = k.process in
     let done : IsAccepted (Unit {0}) (finish_tests s k) tt (vacate s n) tt made.mid = accepted (finish_tests s k) s tt (vacate s n) tt made.mid made.event in
@@ -126,22 +123,6 @@ finish_room s u k laws room made =
       labels = λ most labels. subst (λ t. LabelsWithin t most) (sym done.state) (vacate_within s n most (resources_of s n) (once_of s laws) labels);
       fewer = omega (arith, vacate_less s n (resources_of s n) live, ap to_end done.state);
     } (omega (arith, (event_counts (Finish k) s made.mid (Ok tt) made.event).2))
-
-abort_room : (s u : TableState) (k : Key) → Laws s → HasReserve s → Made (Abort k) s tt u → HasReserve u
-abort_room s u k laws room made =
-    let n = k.process in
-    let t = take_back s n in
-    let done : IsAccepted (Unit {0}) (abort_tests s k) tt (abort s n) tt made.mid = accepted (abort_tests s k) s tt (abort s n) tt made.mid made.event in
-    let live : slice_index_or s.live n false ≡ true = live_process s k (not-false (is_live s k) done.passed.1.0) in
-    let once : NoRepeat (map process_of t.waits) = no_repeat_filter process_of (λ w. not (is_of n w)) s.waits (once_of s laws) in
-    made_room (Abort k) s u tt made room record {
-      labels = λ most labels. subst (λ v. LabelsWithin v most) (sym done.state) (vacate_within t n most (resources_of t n) once (activate_within s n most labels));
-      fewer = omega (arith, vacate_less t n (resources_of t n) live, activate_held s n, ap to_end done.state);
-    } (omega (arith, (event_counts (Abort k) s made.mid (Ok tt) made.event).2))
-
-pub end_room : (kind : EndKind) (s u : TableState) (k : Key) → Laws s → HasReserve s → MakesEnd kind k s (Ok tt) u → HasReserve u
-end_room way.Finish s u k laws room made = finish_room s u k laws room made
-end_room way.Abort s u k laws room made = abort_room s u k laws room made
 
 some_of_waiting : (s : TableState) (n : ℕ) → is_waiting s n ≡ true → (r : ℕ) × (wait_of s n ≡ Some r)
 some_of_waiting s n waits = by_wait (wait_of s n) refl
@@ -231,3 +212,24 @@ waits_room s u k h r room laws below fits from =
     let labels : LabelsWithin u (most + 2) = rests.labels (most + 2) (subst (λ t. LabelsWithin t (most + 2)) (sym done.state) (waits_labels s k r most (owner_of s r) room.by_events)) in
     asked_room s u room laws (rests.config ∙ event_config (Acquire k r) s mid (Ok answer) from.event) below
     (λ p. omega (arith, labels p, fits)) (λ p. omega (arith, labels p, counts.0, rests.more)) (omega (arith, counts.0, rests.few)) (omega (arith, counts.0, counts.2, room.aborts, rests.more, rests.aborts))
+
+-- a request that is declined: it waited, and took back its wait
+pub declines_room : (s u : TableState) (k h : Key) (r : ℕ) → HasReserve s → Laws u → s.totals.accepted < event_limit → 2 * s.totals.accepted + 2 ≤ s.config.label_limit → Declines s k r h u → HasReserve u
+declines_room s u k h r room laws below fits declined =
+    let answer : Acquired = acquired.Waits h declined.waited.label in
+    let from = declined.waited in
+    let mid = from.mid in
+    let v = declined.settled in
+    let n = k.process in
+    let done : IsAccepted Acquired (acquire_tests s k r) (acquire_answer s k (owner_of s r)) (acquire_change s k r (owner_of s r)) answer mid
+    = accepted (acquire_tests s k r) s (acquire_answer s k (owner_of s r)) (acquire_change s k r (owner_of s r)) answer mid from.event in
+    let counts = event_counts (Acquire k r) s mid (Ok answer) from.event in
+    let rests : RestsWithin mid v = rests_within mid v (inr (from.answer, from.settle)) in
+    let most = 2 * s.totals.accepted in
+    let waited : LabelsWithin v (most + 2) = rests.labels (most + 2) (subst (λ t. LabelsWithin t (most + 2)) (sym done.state) (waits_labels s k r most (owner_of s r) room.by_events)) in
+    let labels : LabelsWithin u (most + 2) = subst (λ t. LabelsWithin t (most + 2)) (sym declined.back) (activate_within v n (most + 2) waited) in
+    let events : u.totals.accepted ≡ v.totals.accepted = ap (λ (t : TableState). t.totals.accepted) declined.back in
+    let aborts : u.totals.aborts ≡ v.totals.aborts + 1 = ap (λ (t : TableState). t.totals.aborts) declined.back in
+    asked_room s u room laws declined.same.config below
+    (λ p. omega (arith, labels p, fits)) (λ p. omega (arith, labels p, counts.0, rests.more, events)) (omega (arith, counts.0, rests.few, events))
+    (omega (arith, counts.0, counts.2, room.aborts, rests.more, rests.aborts, events, aborts))

@@ -1,11 +1,9 @@
 -- A wait that is taken back.
-use Rattle.std.proofs.Common.{◌≡◌, ◌≢◌, ℕ, true, false, Some, None, List, Bool, Option, Ok, inl, inr, if◌then◌else◌, refl, sym, ap, subst, ◌∙◌, ◌&&◌, nat_eq, slice_index, slice_index_or, slice_set}
+use Rattle.std.proofs.Common.{◌≡◌, ◌≢◌, ℕ, true, false, Some, None, Bool, Option, Ok, if◌then◌else◌, refl, sym, ap, subst, ◌∙◌, ◌&&◌, nat_eq, slice_index, slice_index_or}
 use Rattle.std.specs.Option.{option_map_or}
-use Rattle.std.proofs.lemmas.Bool.{cases_eq}
 use Rattle.mm_arena.specs.declared.key.Key.{Key}
-use Rattle.mm_bit_set.specs.BitSet.{has}
 use Rattle.mm_names.specs.Names.{NameTable, name_of}
-use Rattle.mm_rules.specs.TableState.{TableState, holder_of, is_live, has_verdict, owner_of, wait_of, waited_for}
+use Rattle.mm_rules.specs.TableState.{TableState, holder_of, is_live, owner_of, wait_of, waited_for}
 use Rattle.mm_rules.specs.Change.{activate, block}
 use Rattle.mm_rules.specs.Withdraw.{shown_process, shows_waiting, withdraw, withdraw_tests}
 use Rattle.mm_rules.proofs.States.Activate.{waits_no_longer, waits_else}
@@ -15,15 +13,7 @@ use Rattle.mm_settled.specs.Calls.{MadeWithdrawal}
 use Rattle.mm_settled.proofs.Lemmas.Accepted.{IsAccepted, accepted}
 use Rattle.mm_manager.specs.LockState.{LockState, untold}
 use Rattle.mm_manager.specs.Calls.{TakesBack}
-use Rattle.mm_manager.specs.declared.parts.Parts.{Parts}
-use Rattle.mm_manager.specs.declared.reply.Cancel.{Cancel}
-use Rattle.mm_manager.specs.declared.reply.Cancel.TheVariants as cancels
-use Rattle.mm_manager.specs.private.Aborts.{TookBack}
-use Rattle.mm_manager.specs.private.Handed.{DueWait, AreParts}
 use Rattle.mm_manager.specs.private.Numbers.{AreNumbered}
-use Rattle.mm_manager.specs.private.Room.{HasReserve}
-use Rattle.mm_manager.proofs.Lemmas.Due.{was_marked}
-use Rattle.mm_manager.proofs.Lemmas.Handed.{waits_something, is_waiting_for, unmarked_here}
 use Rattle.mm_manager.proofs.Lemmas.May.{IsActive}
 use Rattle.mm_manager.proofs.Lemmas.Numbers.{numbered_alike, some_not_none}
 use Rattle.mm_manager.proofs.Lemmas.Owners.{RestsAlike, rests_alike}
@@ -75,38 +65,16 @@ module _ (s u : TableState) (k : Key) (made : MadeWithdrawal k s u) where
   pub taken_back_else : (m : ℕ) → m ≢ k.process → wait_of u m ≡ wait_of s m
   taken_back_else m apart = ap (λ ws. waited_for ws m) waits ∙ waits_else s k.process m apart
 
-  pub taken_back_verdict : (v : ℕ) → has_verdict u v ≡ has_verdict s v
-  taken_back_verdict v = made.verdicts v ∙ ap (λ vs. slice_index_or vs v false) leaves.verdicts
-
   pub taken_back_active : is_live s k ≡ true → IsActive u k
   taken_back_active live = record {
     live = (λ i. slice_index_or (keys.live i) k.process false && nat_eq (slice_index (keys.generations i) k.process) k.generation) ∙ live;
     idle = taken_back_idle;
   }
 
-  pub taken_back_due : (due : List Bool) → DueWait s due → DueWait u (slice_set due k.process false)
-  taken_back_due due waiting p marked = elim (cases_eq p k.process) [
-    | inl same ↦ (let never : true ≡ false = sym marked ∙ ap (has (slice_set due k.process false)) same ∙ unmarked_here due k.process in absurd (cc))
-    | inr apart ↦
-        let was = waiting p (was_marked due k.process p marked) in
-        let before = waits_something s p was.0 in
-        (is_waiting_for u p before.0 (taken_back_else p apart ∙ before.1), taken_back_verdict p ∙ was.1)
-  ]
-
-  -- if the abort of k is not due, the marks stay
-  pub taken_back_not_due : (due : List Bool) → has due k.process ≡ false → DueWait s due → DueWait u due
-  taken_back_not_due due none waiting p marked = elim (cases_eq p k.process) [
-    | inl same ↦ (let never : true ≡ false = sym marked ∙ ap (has due) same ∙ none in absurd (cc))
-    | inr apart ↦
-        let was = waiting p marked in
-        let before = waits_something s p was.0 in
-        (is_waiting_for u p before.0 (taken_back_else p apart ∙ before.1), taken_back_verdict p ∙ was.1)
-  ]
-
 -- ---- by names
 
-pub takes_back : (old new : LockState) (k : Key) (due : List Bool) → MadeWithdrawal k old.table new.table → new ≡ record (untold old) { table = new.table; due = due; totals = new.totals } → TakesBack old k due new
-takes_back old new k due made state = record {
+pub takes_back : (old new : LockState) (k : Key) → MadeWithdrawal k old.table new.table → new ≡ record (untold old) { table = new.table; totals = new.totals } → TakesBack old k new
+takes_back old new k made state = record {
   made = made;
   idle = λ name waits. some_not_none (wait_of new.table k.process) waits.0 waits.2 (taken_back_idle old.table new.table k made);
   owners = λ h name. (
@@ -117,7 +85,6 @@ takes_back old new k due made state = record {
     λ waits. (waits.0, sym (named waits.0) ∙ waits.1, sym (taken_back_else old.table new.table k made h.process apart) ∙ waits.2),
     λ waits. (waits.0, named waits.0 ∙ waits.1, taken_back_else old.table new.table k made h.process apart ∙ waits.2),
   );
-  verdicts = taken_back_verdict old.table new.table k made;
   state = state;
 }
   where
@@ -126,16 +93,3 @@ takes_back old new k due made state = record {
 
     owner : (q : ℕ) → owner_of new.table q ≡ owner_of old.table q
     owner q = ap (λ os. slice_index_or os q None) (taken_back_owners old.table new.table k made)
-
--- ---- by the answer
-
-pub took_back_parts : (old new : Parts) (k : Key) (answer : Cancel) → has old.lists.due.items k.process ≡ false → TookBack old.named.table.table k answer new.named.table.table → HasReserve new.named.table.table
-    → new.named.names ≡ old.named.names → new.lists ≡ old.lists → AreParts old → AreParts new
-took_back_parts old new k cancels.Withdrawn not_due made room names lists parts = record {
-  numbered = rw names (taken_back_numbered old.named.table.table new.named.table.table k made old.named.names parts.numbered);
-  fits = rw (taken_back_config old.named.table.table new.named.table.table k made, lists) parts.fits;
-  due = rw lists (taken_back_not_due old.named.table.table new.named.table.table k made old.lists.due.items not_due parts.due);
-  room = room;
-}
-took_back_parts old new k cancels.Carried not_due (carried, same) room names lists parts =
-    record { numbered = rw (same, names) parts.numbered; fits = rw (same, lists) parts.fits; due = rw (same, lists) parts.due; room = room }

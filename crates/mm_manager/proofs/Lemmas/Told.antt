@@ -1,111 +1,128 @@
--- From the parts to what a contract sees: what a request, a release and an end do.
-use Rattle.std.proofs.Common.{◌≡◌, ◌≢◌, ℕ, true, List, [], Some, Result, Ok, Err, IfOk, IfErr, OnErr, inl, inr, sym, ap, subst, ◌∙◌}
+-- From a table with names to what a contract sees: what a request, a release and an end do.
+use Rattle.std.specs.Prelude.{is_ok}
+use Rattle.std.proofs.Common.{◌≡◌, ◌≢◌, ◌⊎◌, ℕ, Bool, true, false, List, [], Some, Result, Ok, Err, IfOk, IfErr, OnOk, OnErr, inl, inr, refl, sym, ap, subst, ◌∙◌}
 use Rattle.mm_arena.specs.declared.key.Key.{Key}
-use Rattle.mm_lists.specs.Members.{Among}
-use Rattle.mm_bit_set.specs.BitSet.{has}
 use Rattle.mm_names.specs.Names.{name_of, IsLawful as IsLawfulNames}
-use Rattle.mm_rules.specs.declared.reply.Released.{Released}
-use Rattle.mm_rules.specs.TableState.{owner_of}
-use Rattle.mm_rules.specs.Event.{Event, Answer, Release}
+use Rattle.mm_rules.specs.TableState.{is_live, owner_of}
+use Rattle.mm_rules.specs.Event.{Release, Finish}
 use Rattle.mm_rules.specs.Laws.{Laws}
 use Rattle.mm_rules.proofs.States.Lookups.{waits_here, held}
+use Rattle.mm_settled.specs.Calls.{MadeWithdrawal}
 use Rattle.mm_manager.specs.LockState.{LockState, Owns, Waits, untold}
-use Rattle.mm_manager.specs.Calls.{LocksName, TriesName, Tries, LosesName, LosesAll, HandsOver, AbortsDue, Unlocks, EndsBy}
-use Rattle.mm_manager.specs.Refused.{TryRefused}
-use Rattle.mm_manager.specs.Totals.{after_lock}
-use Rattle.mm_manager.specs.declared.parts.Parts.{Parts}
+use Rattle.mm_manager.specs.Calls.{LocksName, TriesName, Tries, LosesName, LosesAll, Unlocks, Ends, UnlocksName, Commits, TakesBack, Cancels, Aborts}
+use Rattle.mm_manager.specs.Calls as calls
+use Rattle.mm_manager.specs.Permit.{may_ask, may_cancel}
+use Rattle.mm_manager.specs.Refused.{TryRefused, UnlockRefused}
+use Rattle.mm_manager.specs.Totals.{after_lock, after_commit, after_abort, after_cancel}
+use Rattle.mm_manager.specs.declared.named.NamedTable.{NamedTable}
 use Rattle.mm_manager.specs.declared.totals.Totals.{Totals}
 use Rattle.mm_manager.specs.declared.refusal.Refusal.{Refusal}
+use Rattle.mm_manager.specs.declared.refusal.Refusal.TheVariants.{NoTransaction}
 use Rattle.mm_manager.specs.declared.reply.Lock.{Lock}
 use Rattle.mm_manager.specs.declared.reply.Lock.TheVariants as lock
-use Rattle.mm_manager.specs.private.Aborts.{seen}
-use Rattle.mm_manager.specs.private.Handed.{LosesOr, HandedFrom}
-use Rattle.mm_manager.specs.private.HandsDown.{IsEnding, IsReleased}
-use Rattle.mm_manager.specs.private.Numbers.{AreNumbered}
-use Rattle.mm_manager.specs.private.Requests.{Requested}
 use Rattle.mm_manager.specs.declared.reply.TryLock.{TryLock}
 use Rattle.mm_manager.specs.declared.reply.TryLock.TheVariants as tried
+use Rattle.mm_manager.specs.private.Handed.{HandsOver, HandsAllOver, EndsWaiting, IsUntouched, seen}
+use Rattle.mm_manager.specs.private.HandsDown.{IsEnding, IsReleased}
+use Rattle.mm_manager.specs.private.Numbers.{AreNumbered, bare}
+use Rattle.mm_manager.specs.private.Requests.{Requested}
 use Rattle.mm_manager.proofs.Lemmas.Asked.{gets, queues}
+use Rattle.mm_manager.proofs.Lemmas.HandsDown.{made_laws, release_hands_down, finish_hands_down}
 use Rattle.mm_manager.proofs.Lemmas.Names.{passes}
-use Rattle.mm_manager.proofs.Lemmas.Requests.{granted_is, queued_is}
+use Rattle.mm_manager.proofs.Lemmas.Requests.{granted_is, queued_is, owned_is_known}
+use Rattle.mm_manager.proofs.Lemmas.TakesBack.{takes_back}
 
 -- ---- a request
 
--- the lists tell of nobody
-pub record TellsNobody (old new : LockState) : Type 0 where
-  pub due : new.due ≡ old.due
-  pub granted : new.granted ≡ []
-  pub aborted : new.aborted ≡ []
-
-same_untold : (old new : LockState) → new.table ≡ old.table → new.names ≡ old.names → TellsNobody old new → new.totals ≡ old.totals → new ≡ untold old
-same_untold old new table names tells totals = λ i. record { table = table i; names = names i; due = tells.due i; granted = tells.granted i; aborted = tells.aborted i; totals = totals i }
+same_untold : (old new : LockState) → new.table ≡ old.table → new.names ≡ old.names → new.granted ≡ [] → new.totals ≡ old.totals → new ≡ untold old
+same_untold old new table names granted totals = λ i. record { table = table i; names = names i; granted = granted i; totals = totals i }
 
 pub asked_locks : (old new : LockState) (k : Key) (name : List ℕ) (reply : Result Lock Refusal) → AreNumbered old.table old.names → Laws old.table → Laws new.table
-    → Requested old.table old.names k name reply new.table new.names → TellsNobody old new → new.totals ≡ after_lock old.totals reply → LocksName old k name reply new
-asked_locks old new k name (Ok lock.Granted) numbered laws after (may, asks) tells totals = gets old new k name asks.0 numbered asks.1 laws (granted_is old.table new.table k asks.0 asks.2)
-asked_locks old new k name (Ok lock.Held) numbered laws after (may, asks) tells totals = (asks.0, same_untold old new asks.1 asks.2 tells totals)
-asked_locks old new k name (Ok (lock.Waits h)) numbered laws after (may, asks) tells totals =
-    (queues old new k name asks.1.0 numbered asks.1.1 laws h (queued_is old.table new.table k h asks.1.0 asks.1.2.0) after, asks.1.2.1)
-asked_locks old new k name (Ok (lock.Deadlock h)) numbered laws after (may, asks) tells totals =
-    (queues old new k name asks.1.0 numbered asks.1.1 laws h (queued_is old.table new.table k h asks.1.0 asks.1.2.0) after, asks.1.2.1)
-asked_locks old new k name (Err e) numbered laws after (refused, table, names) tells totals = (same_untold old new table names tells totals, refused)
+    → Requested old.table old.names k name reply new.table new.names → new.granted ≡ [] → new.totals ≡ after_lock old.totals reply → LocksName old k name reply new
+asked_locks old new k name (Ok lock.Granted) numbered laws after (may, asks) granted totals = gets old new k name asks.0 numbered asks.1 laws (granted_is old.table new.table k asks.0 asks.2)
+asked_locks old new k name (Ok lock.Held) numbered laws after (may, asks) granted totals = (asks.0, same_untold old new asks.1 asks.2 granted totals)
+asked_locks old new k name (Ok (lock.Waits h)) numbered laws after (may, asks) granted totals =
+    (queues old new k name asks.1.0 numbered asks.1.1 laws h (queued_is old.table new.table k h asks.1.0 asks.1.2.0) after, asks.1.2.2)
+asked_locks old new k name (Ok (lock.Deadlock h)) numbered laws after (may, asks) granted totals =
+    let known = owned_is_known old.table old.names numbered new.names name asks.1.0 h asks.1.2.owner asks.1.1 in
+    record {
+      holder = (asks.1.0, known.0, asks.1.2.owner);
+      closes = asks.1.2.closes;
+      same = asks.1.2.same;
+      state = λ i. record { table = new.table; names = known.1 i; granted = granted i; totals = new.totals };
+    }
+asked_locks old new k name (Err e) numbered laws after (refused, table, names) granted totals = (same_untold old new table names granted totals, refused)
 
 pub tried_locks : (old new : LockState) (k : Key) (name : List ℕ) (reply : Result TryLock Refusal) → AreNumbered old.table old.names → Laws old.table
-    → IfOk reply (λ answer. Tries old.table old.names k name answer new.table new.names) → IfErr reply (λ refusal. TryRefused old k name refusal) → OnErr reply (new.table ≡ old.table) → OnErr reply (new.names ≡ old.names) → TellsNobody old new
+    → IfOk reply (λ answer. Tries old.table old.names k name answer new.table new.names) → IfErr reply (λ refusal. TryRefused old k name refusal) → OnErr reply (new.table ≡ old.table) → OnErr reply (new.names ≡ old.names) → new.granted ≡ []
     → new.totals ≡ old.totals → TriesName old k name reply new
-tried_locks old new k name (Ok tried.Granted) numbered laws asks refused table names tells totals =
+tried_locks old new k name (Ok tried.Granted) numbered laws asks refused table names granted totals =
     gets old new k name asks.0 numbered asks.1 laws (granted_is old.table new.table k asks.0 asks.2)
-tried_locks old new k name (Ok tried.Held) numbered laws asks refused table names tells totals = (asks.0, same_untold old new asks.1 asks.2 tells totals)
-tried_locks old new k name (Ok (tried.Busy h)) numbered laws asks refused table names tells totals = (asks.1.0, asks.0, same_untold old new asks.1.1 asks.1.2 tells totals)
-tried_locks old new k name (Err e) numbered laws asks refused table names tells totals = (same_untold old new table names tells totals, refused)
+tried_locks old new k name (Ok tried.Held) numbered laws asks refused table names granted totals = (asks.0, same_untold old new asks.1 asks.2 granted totals)
+tried_locks old new k name (Ok (tried.Busy h)) numbered laws asks refused table names granted totals = (asks.1.0, asks.0, same_untold old new asks.1.1 asks.1.2 granted totals)
+tried_locks old new k name (Err e) numbered laws asks refused table names granted totals = (same_untold old new table names granted totals, refused)
 
 -- ---- hand-overs
 
-module _ (old : LockState) (now : Parts) (after : Totals) (k : Key) where
-  abbrev new : LockState
-  new = seen now after
+-- `old` is what a contract sees of `was`
+module _ (was new : NamedTable) (tells : Bool) (before after : Totals) (k : Key) where
+  abbrev old : LockState
+  old = seen was tells before
 
-  hands_over : (e : Event) (answer : Answer e) (n : ℕ) (Loses : ℕ → Key → Type 0) → HandedFrom e old.table old.names old.due answer n Loses now → HandsOver e old answer new
-  hands_over e answer n Loses handed =
-      record { mid = handed.mid; made = handed.made; later = handed.later; granted = handed.granted; ends = handed.ends; names = handed.names }
+  untouched : after ≡ before → IsUntouched was new → seen new false after ≡ untold old
+  untouched totals same = same_untold old (seen new false after) same.table same.names refl totals
 
-  aborts_due : (e : Event) (answer : Answer e) (n : ℕ) (Loses : ℕ → Key → Type 0) → HandedFrom e old.table old.names old.due answer n Loses now → AbortsDue old new
-  aborts_due e answer n Loses handed = record {
-    aborted = λ h. (
-      handed.was_due h,
-      λ due.
-          let marked : has old.due due.1.0.key.process ≡ true = ap (λ (i : Key). has old.due i.process) due.1.2 ∙ due.0 in
-          subst (λ i. Among i now.lists.aborted.items) due.1.2 (handed.all due.1.0 due.1.1 marked),
-    );
-    stay = handed.stay;
-  }
+  module _ (laws : Laws was.table.table) where
+    released : (name : List ℕ) (n : ℕ) → IsLawfulNames was.names → name_of was.names n ≡ Some name → owner_of was.table.table n ≡ Some k → HandsOver k n was new → Unlocks old k name (seen new true after)
+    released name n names named owned (answer, made, follows) = record {
+      number = n;
+      named = named;
+      owned = owned;
+      answer = answer;
+      over = record { made = made; granted = follows.told.granted; names = follows.names };
+      passes = passes old (seen new true after) k (IsReleased k n) (LosesName k name) (made_laws (Release k n) was.table.table new.table.table answer laws made)
+          (release_hands_down was.table.table new.table.table k new.table.granted laws follows.ended follows.told.granted n answer made) follows.names
+          (λ q h other is lost. (lost.0, (let both : Some other ≡ Some name = sym is ∙ ap (name_of was.names) lost.1 ∙ named in cc)))
+          (λ q h other is lost. (lost.0, names.distinct q n name (is ∙ ap Some lost.1) named));
+    }
 
-  pub released_unlocks : (name : List ℕ) (n : ℕ) (answer : Released) → IsLawfulNames old.names → owner_of old.table n ≡ Some k → name_of old.names n ≡ Some name
-      → HandedFrom (Release k n) old.table old.names old.due answer k.process (IsReleased k n) now → Unlocks old k name new
-  released_unlocks name n answer names owned named handed = record {
-    number = n;
-    named = named;
-    owned = owned;
-    answer = answer;
-    over = hands_over (Release k n) answer k.process (IsReleased k n) handed;
-    passes = passes old new k (LosesOr (IsReleased k n) new.aborted) (LosesName k name new.aborted) handed.laws handed.down handed.names
-        (λ q h other is lost. elim lost [
-          | inl same ↦ inl (same.0, (let both : Some other ≡ Some name = sym is ∙ ap (name_of old.names) same.1 ∙ named in cc))
-          | inr ended ↦ inr ended
-        ])
-        (λ q h other is lost. elim lost [
-          | inl same ↦ inl (same.0, names.distinct q n name (is ∙ ap Some same.1) named)
-          | inr ended ↦ inr ended
-        ]);
-    due = aborts_due (Release k n) answer k.process (IsReleased k n) handed;
-  }
+    pub ended : HandsAllOver k was new → Ends old k (seen new true after)
+    ended (made, follows) = record {
+      over = record { made = made; granted = follows.told.granted; names = follows.names };
+      passes = passes old (seen new true after) k (IsEnding k) (LosesAll k) (made_laws (Finish k) was.table.table new.table.table tt laws made)
+          (finish_hands_down was.table.table new.table.table k new.table.granted laws follows.ended follows.told.granted made) follows.names (λ q h other is lost. lost) (λ q h other is lost. lost);
+    }
 
-  pub ended_by : (e : Event) (answer : Answer e) → HandedFrom e old.table old.names old.due answer k.process (IsEnding k) now → EndsBy e old answer k new
-  ended_by e answer handed = record {
-    over = hands_over e answer k.process (IsEnding k) handed;
-    passes = passes old new k (LosesOr (IsEnding k) new.aborted) (LosesAll k new.aborted) handed.laws handed.down handed.names (λ q h other is lost. lost) (λ q h other is lost. lost);
-    due = aborts_due e answer k.process (IsEnding k) handed;
-  }
+    pub unlocks : (name : List ℕ) (done : Result (Unit {0}) Refusal) (told : Bool) → told ≡ is_ok done → after ≡ before → IsLawfulNames was.names
+        → OnOk done ((n : ℕ) × (name_of was.names n ≡ Some name) × (owner_of was.table.table n ≡ Some k) × HandsOver k n was new)
+        → OnErr done (IsUntouched was new) → IfErr done (λ refusal. UnlockRefused (bare was.table.table was.names) k name refusal) → UnlocksName old k name done (seen new told after)
+    unlocks name (Ok x) told is totals names (n, named, owned, handed) same refused = subst (λ b. Unlocks old k name (seen new b after)) (sym is) (released name n names named owned handed)
+    unlocks name (Err e) told is totals names handed same refused = (ap (λ b. seen new b after) is ∙ untouched totals same, refused)
+
+    pub commits : (done : Result (Unit {0}) Refusal) (told : Bool) → told ≡ is_ok done → after ≡ after_commit before done → OnOk done (HandsAllOver k was new) → OnErr done (IsUntouched was new)
+        → IfErr done (λ refusal. may_ask was.table.table k ≡ Err refusal) → Commits old k done (seen new told after)
+    commits (Ok x) told is totals handed same refused = subst (λ b. Ends old k (seen new b after)) (sym is) (ended handed)
+    commits (Err e) told is totals handed same refused = (ap (λ b. seen new b after) is ∙ untouched totals same, refused)
+
+-- who waits takes its wait back
+pub taken_back : (was new : NamedTable) (tells : Bool) (before after : Totals) (k : Key) → MadeWithdrawal k was.table.table new.table.table → new.names ≡ was.names → TakesBack (seen was tells before) k (seen new false after)
+taken_back was new tells before after k made names = takes_back (seen was tells before) (seen new false after) k made (λ i. record { table = new.table.table; names = names i; granted = []; totals = after })
+
+pub cancels : (was new : NamedTable) (tells : Bool) (before after : Totals) (k : Key) (done : Result (Unit {0}) Refusal) → after ≡ after_cancel before done → OnOk done (MadeWithdrawal k was.table.table new.table.table)
+    → new.names ≡ was.names → OnErr done (new.table.table ≡ was.table.table) → IfErr done (λ refusal. may_cancel was.table.table k ≡ Err refusal) → Cancels (seen was tells before) k done (seen new false after)
+cancels was new tells before after k (Ok x) totals made names table refused = taken_back was new tells before after k made names
+cancels was new tells before after k (Err e) totals made names table refused = (same_untold (seen was tells before) (seen new false after) table names refl totals, refused)
+
+-- who waits takes its wait back, and ends
+pub ended_waiting : (was new : NamedTable) (tells : Bool) (before after : Totals) (k : Key) → EndsWaiting k was new → calls.EndsWaiting (seen was tells before) k (seen new true after)
+ended_waiting was new tells before after k ends =
+    (seen ends.mid false before, taken_back was ends.mid tells before before k ends.made ends.names, ended ends.mid new false before after k ends.laws ends.over)
+
+pub aborts : (was new : NamedTable) (tells : Bool) (before after : Totals) (k : Key) → Laws was.table.table → (done : Result (Unit {0}) Refusal) (told : Bool) → told ≡ is_ok done → after ≡ after_abort before done
+    → OnOk done (HandsAllOver k was new ⊎ EndsWaiting k was new) → OnErr done (IsUntouched was new) → IfErr done (λ refusal. (is_live was.table.table k ≡ false) × (refusal ≡ NoTransaction)) → Aborts (seen was tells before) k done (seen new told after)
+aborts was new tells before after k laws (Ok x) told is totals (inl handed) same refused = subst (λ b. Aborts (seen was tells before) k (Ok x) (seen new b after)) (sym is) (inl (ended was new tells before after k laws handed))
+aborts was new tells before after k laws (Ok x) told is totals (inr ends) same refused = subst (λ b. Aborts (seen was tells before) k (Ok x) (seen new b after)) (sym is) (inr (ended_waiting was new tells before after k ends))
+aborts was new tells before after k laws (Err e) told is totals handed same refused = (ap (λ b. seen new b after) is ∙ untouched was new tells before after k totals same, refused.0, refused.1)
 
 -- ---- the laws
 

@@ -2,7 +2,7 @@
 use Rattle.std.specs.Prelude.{◌≡◌, ◌≢◌, ◌⊎◌, ℕ, List, Some, None}
 use Rattle.mm_arena.specs.declared.key.Key.{Key}
 use Rattle.mm_lists.specs.Members.{Among}
-use Rattle.mm_rules.specs.TableState.{TableState, owner_of, wait_of, has_verdict}
+use Rattle.mm_rules.specs.TableState.{TableState, owner_of, wait_of}
 use Rattle.mm_settled.specs.declared.reply.Grant.{Grant}
 
 -- from s to u, in a call of process n, which waits no longer, a transaction that loses a number does not own it, `granted` are the waits that ended, and all else stays
@@ -15,7 +15,6 @@ pub record HandsDown (s : TableState) (n : ℕ) (Loses : ℕ → Key → Type 0)
   pub waited : (g : Grant) → Among g granted → wait_of s g.key.process ≡ Some g.resource
   pub goes_on : (g : Grant) → Among g granted → wait_of u g.key.process ≡ None
   pub owns : (g : Grant) → Among g granted → ¬ Loses g.resource g.key → owner_of u g.resource ≡ Some g.key
-  pub verdicts : (v : ℕ) → v ≢ n → has_verdict u v ≡ has_verdict s v
   pub lost : (q : ℕ) (h : Key) → Loses q h → ¬ (owner_of u q ≡ Some h)
   pub own : wait_of u n ≡ None
 

@@ -3,14 +3,13 @@ use Rattle.std.specs.Prelude.{◌≤◌}
 use Rattle.mm_manager.specs.LockState.{LockState}
 use Rattle.mm_manager.specs.declared.manager.LockManager.TheInside.{Inside}
 use Rattle.mm_manager.specs.Totals.{all_of}
-use Rattle.mm_manager.specs.private.Aborts.{seen}
-use Rattle.mm_manager.specs.private.Handed.{AreParts}
+use Rattle.mm_manager.specs.private.Handed.{IsSound, seen}
 
 -- what a contract sees
 abbrev pub state_of : Inside → LockState
-state_of m = seen m.parts m.totals
+state_of m = seen m.named m.tells m.totals
 
--- its parts are those of a manager, and the counts together are no more than the events
+-- its table and names are sound, and the counts together are no more than the events
 pub record IsManager (m : Inside) : Type 0 where
-  pub parts : AreParts m.parts
-  pub counted : all_of m.totals ≤ m.parts.named.table.table.totals.accepted
+  pub sound : IsSound m.named
+  pub counted : all_of m.totals ≤ m.named.table.table.totals.accepted

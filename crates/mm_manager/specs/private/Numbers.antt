@@ -21,6 +21,6 @@ abbrev pub left_by : Released → NameTable → ℕ → NameTable
 left_by Free t n = with_name t n None
 left_by (To k) t n = t
 
--- a manager of these, in which no abort is due, nothing is told and nothing is counted
+-- a manager of these, in which nothing is told and nothing is counted
 abbrev pub bare : TableState → NameTable → LockState
-bare s t = record { table = s; names = t; due = []; granted = []; aborted = []; totals = nothing_counted }
+bare s t = record { table = s; names = t; granted = []; totals = nothing_counted }

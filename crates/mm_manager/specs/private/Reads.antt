@@ -1,9 +1,9 @@
 -- What is read of a status.
-use Rattle.std.specs.Prelude.{Bool, List, []}
+use Rattle.std.specs.Prelude.{[]}
 use Rattle.mm_rules.specs.TableState.{TableState}
 use Rattle.mm_manager.specs.LockState.{LockState}
-use Rattle.mm_manager.specs.Totals.{nothing_counted}
+use Rattle.mm_manager.specs.private.Numbers.{bare}
 
--- a manager of this table and these marks, without names
-abbrev pub marked : TableState → List Bool → LockState
-marked s due = record { table = s; names = record { names = []; name_bytes = 0 }; due = due; granted = []; aborted = []; totals = nothing_counted }
+-- a manager of this table, without names
+abbrev pub unnamed : TableState → LockState
+unnamed s = bare s (record { names = []; name_bytes = 0 })

@@ -59,7 +59,7 @@ next_among g n (i ∷ places) m k j path (inr found) waits = elim (next_among g 
   | inr next ↦ inr (inr next)
 ]
 
-last_among : (g : Graph) (n : ℕ) (places : List ℕ) (m : ℕ) → Path g n places m → Among m (n ∷ places)
+pub last_among : (g : Graph) (n : ℕ) (places : List ℕ) (m : ℕ) → Path g n places m → Among m (n ∷ places)
 last_among g n [] m end = inl (sym end)
 last_among g n (j ∷ places) m path = inr (last_among g j places m path.2)
 

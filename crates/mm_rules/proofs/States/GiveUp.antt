@@ -55,6 +55,13 @@ module _ (s : TableState) (n : ℕ) (laws : Laws s) (verdict : IsTrue (has_verdi
       = sum_by-set (λ (v : Bool). cond v 1 0) s.verdicts n false false (omega (arith, within, laws.lawful.well_formed.sizes.verdicts)) in
       omega (arith, rw verdict at less, laws.lawful.counted)
 
+  -- there are more verdicts than aborts
+  pub aborts_below : s.totals.aborts < s.totals.verdicts
+  aborts_below =
+      let less : count_by (λ v. v) (slice_set s.verdicts n false) + cond (slice_index_or s.verdicts n false) 1 0 ≡ count_by (λ v. v) s.verdicts + 0
+      = sum_by-set (λ (v : Bool). cond v 1 0) s.verdicts n false false (omega (arith, within, laws.lawful.well_formed.sizes.verdicts)) in
+      omega (arith, rw verdict at less, laws.lawful.counted)
+
   pub take_back_keeps : KeepsLaws s (take_back s n)
   take_back_keeps = activated_with_keeps s n (laws.convicted n verdict).0 (slice_set s.verdicts n false) (record s.totals { aborts = s.totals.aborts + 1 }) laws convicted_waits (inr (inl (ap word_of (sym convicted_own))))
       verdict_before (length-set s.verdicts n false) counted

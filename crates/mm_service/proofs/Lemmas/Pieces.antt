@@ -52,3 +52,9 @@ writes_line before after old head body now lost is w =
     ap (λ l. l ++ codes "\n") (ap (λ l. l ++ body) is ∙ append_assoc old head body) ∙ append_assoc old (head ++ body) (codes "\n") in
     let P : List ℕ → Type 0 = λ l. Writes before after l (lost ++ codes "\n") in
     subst P same end
+
+-- the head of a line was printed, and its body is written with the end of the line
+pub writes_ended : (before after : Option (List ℕ)) (old head body now lost : List ℕ) → now ≡ old ++ head → Writes before after (now ++ line_text body) lost → Writes before after (old ++ line_text (head ++ body)) lost
+writes_ended before after old head body now lost is w =
+    let P : List ℕ → Type 0 = λ l. Writes before after (old ++ l) lost in
+    subst P (sym (append_assoc head body (codes "\n"))) (writes_after before after old head now (line_text body) lost is w)

@@ -1,5 +1,5 @@
 -- What a release and the end of a transaction leave of owners, waits and verdicts.
-use Rattle.std.proofs.Common.{◌≡◌, ◌≢◌, ◌⊎◌, ◌<◌, ◌+◌, ℕ, Bool, true, false, length, fold, nat_eq, Some, None, Ok, IsTrue, slice_index_or, inl, inr, sym, ap, subst, ◌∙◌, arith, get_or-set_other}
+use Rattle.std.proofs.Common.{◌≡◌, ◌≢◌, ◌⊎◌, ◌<◌, ◌+◌, ℕ, Bool, true, false, length, fold, nat_eq, Some, None, Ok, IsTrue, slice_index_or, inl, inr, sym, ap, subst, ◌∙◌, arith}
 use Rattle.std.specs.List.{range_with_len}
 use Rattle.std.proofs.lemmas.Bool.{cases_lt, eqb-true, eqb-false, not-false}
 use Rattle.std.proofs.lemmas.List.{get_or_past}
@@ -9,13 +9,10 @@ use Rattle.mm_lists.proofs.Lemmas.Filter.{filter_gives, filter_keeps}
 use Rattle.mm_lists.proofs.Lemmas.Range.{among_range, no_repeat_filter_range}
 use Rattle.mm_rules.specs.declared.reply.Released.{Released}
 use Rattle.mm_rules.specs.TableState.{TableState, has_verdict, owner_of, owns, resources_of, wait_of, waited_for, waiters_of}
-use Rattle.mm_rules.specs.Change.{activate, free_slot, hand_over, hand_over_fits, vacate, vacate_fits, take_back, abort}
-use Rattle.mm_rules.specs.Event.{Release, Finish, Abort, Step, release_tests, release_answer, finish_tests, abort_tests}
+use Rattle.mm_rules.specs.Change.{free_slot, hand_over, hand_over_fits, vacate, vacate_fits}
+use Rattle.mm_rules.specs.Event.{Release, Finish, Step, release_tests, release_answer, finish_tests}
 use Rattle.mm_rules.specs.Laws.{Laws}
-use Rattle.mm_rules.proofs.States.Abort.{fits_still}
-use Rattle.mm_rules.proofs.States.Activate.{waits_no_longer, waits_else}
 use Rattle.mm_rules.proofs.States.Config.{event_config}
-use Rattle.mm_rules.proofs.States.GiveUp.{take_back_keeps}
 use Rattle.mm_rules.proofs.States.HandOver.{hand_over_keeps}
 use Rattle.mm_rules.proofs.States.HandOverLaws.{MayHandOver, owner_within}
 use Rattle.mm_rules.proofs.States.Lookups.{none_of_is_some}
@@ -144,37 +141,3 @@ finish_hands_on s new k laws step =
     let done : IsAccepted (Unit {0}) (finish_tests s k) tt (vacate s n) tt new = accepted (finish_tests s k) s tt (vacate s n) tt new step in
     vacated_hands_on s new n laws (none_of_is_some (wait_of s n) done.passed.1.1.0) (not-false (vacate_fits s n) done.passed.1.1.1.0)
     (event_config (Finish k) s new (Ok tt) step) (ends_as (emptied s n) new n done.state)
-
--- its wait and its verdict go first
-withdrawn_hands_on : (s new : TableState) (n : ℕ) → HandsOn (take_back s n) n (owns (take_back s n) n) new → HandsOn s n (owns s n) new
-withdrawn_hands_on s new n on = record {
-  config = on.config;
-  others = λ r other. on.others r other;
-  handed = λ r k mine owned.
-      let waited : wait_of (activate s n) k.process ≡ Some r = on.handed r k mine owned in
-      let apart : k.process ≢ n = λ e. let never : None ≡ Some r = sym (waits_no_longer s n) ∙ ap (wait_of (activate s n)) (sym e) ∙ waited in absurd (cc) in
-      sym (waits_else s n k.process apart) ∙ waited;
-  own = on.own;
-  ended = λ m apart. elim (on.ended m apart) [
-    | inl same ↦ inl (same ∙ waits_else s n m apart)
-    | inr granted ↦ inr record {
-      resource = granted.resource;
-      key = granted.key;
-      process = granted.process;
-      waited = sym (waits_else s n m apart) ∙ granted.waited;
-      owns = granted.owns;
-      goes_on = granted.goes_on;
-    }
-  ];
-  verdicts = λ v apart. on.verdicts v apart ∙ get_or-set_other s.verdicts n v false false apart;
-}
-
-pub abort_hands_on : (s new : TableState) (k : Key) → Laws s → Step (Abort k) s (Ok tt) new → HandsOn s k.process (owns s k.process) new
-abort_hands_on s new k laws step =
-    let n = k.process in
-    let done : IsAccepted (Unit {0}) (abort_tests s k) tt (abort s n) tt new = accepted (abort_tests s k) s tt (abort s n) tt new step in
-    let verdict : IsTrue (has_verdict s n) = not-false (has_verdict s n) done.passed.1.1.0 in
-    let still : IsTrue (vacate_fits (take_back s n) n) = fits_still s n laws (not-false (vacate_fits s n) done.passed.1.1.1.0) in
-    withdrawn_hands_on s new n
-    (vacated_hands_on (take_back s n) new n (take_back_keeps s n laws verdict).laws (waits_no_longer s n) still
-    (event_config (Abort k) s new (Ok tt) step) (ends_as (emptied (take_back s n) n) new n done.state))

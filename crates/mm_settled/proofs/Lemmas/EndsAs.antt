@@ -8,6 +8,7 @@ use Rattle.mm_rules.specs.TableState.{TableState}
 use Rattle.mm_rules.specs.Event.{Event, Answer, Step}
 use Rattle.mm_rules.specs.Laws.{Laws, AtRest}
 use Rattle.mm_rules.specs.Victims.{BeginsWait}
+use Rattle.mm_rules.specs.TakeBack.{HasNoVictim}
 use Rattle.mm_settle_lemmas.specs.Shown.{IdleShowTheSame}
 use Rattle.mm_settle_lemmas.specs.Touched.{changed_processes}
 use Rattle.mm_settled.specs.declared.lists.Lists.{Lists}
@@ -27,11 +28,11 @@ refused_for_room e s full = (refl, subst (λ b. MatchBool b (Step e s (Err Count
 -- nothing changed, and nothing was granted
 pub ends_refused : (s t : TableState) (n : ℕ) (lists : Lists) → Laws s → AtRest s → t ≡ s → lists.granted.items ≡ grants s t → Fits s.config lists → Ends s t n lists
 ends_refused s t n lists laws rest same granted fits = record {
-  others = λ v apart. (same_is_quiet s t laws same).verdicts v;
   granted = granted;
   ended = ends_none s t n lists.granted.items laws same granted;
   config = ap (λ (u : TableState). u.config) same;
   rest = subst (λ (u : TableState). AtRest u) (sym same) rest;
+  none = λ before. subst (λ (u : TableState). HasNoVictim u) (sym same) before;
   fits = subst (λ (f : Config). Fits f lists) (sym (ap (λ (u : TableState). u.config) same)) fits;
 }
 
@@ -58,10 +59,10 @@ module _ (s mid new : TableState) (n : ℕ) (p : ℕ → Bool) (lists : Lists) (
   hands_over_ends e answer step none idle on =
       let ends = at_rest e answer step none idle on in
       record {
-        others = ends.others;
         granted = ends.are_granted;
         ended = ends.ended;
         config = ends.config;
         rest = ends.rest;
+        none = ends.none;
         fits = subst (λ (f : Config). Fits f lists) (sym ends.config) fits;
       }

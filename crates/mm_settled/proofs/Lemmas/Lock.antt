@@ -1,7 +1,8 @@
 -- A request that waits, and the settle that follows: whoever closed a cycle of waits has its verdict, and nobody else has a new one.
-use Rattle.std.proofs.Common.{◌≡◌, ◌≢◌, ◌<◌, ◌+◌, ℕ, [], Option, Some, None, Result, Ok, Err, Bool, true, false, not, ◌&&◌, IsTrue, nat_eq, nat_lt, if◌then◌else◌, inl, inr, refl, sym, ap, ◌∙◌, arith}
+use Rattle.std.proofs.Common.{◌≡◌, ◌<◌, ◌+◌, ◌^◌, ℕ, [], Option, Some, None, Result, Ok, Err, Bool, true, false, not, ◌&&◌, IsTrue, IsFalse, MatchBool, nat_eq, nat_lt, if◌then◌else◌, inl, inr, refl, sym, ap, ◌∙◌, arith}
 use Rattle.std.specs.Prelude.{OnOk, ◌↔◌}
-use Rattle.std.proofs.lemmas.Bool.{cases_Bool, eqb-true, eqb-false, lt-ltb, leb-false}
+use Rattle.std.proofs.lemmas.Bool.{cases_Bool, and_parts, ltb-true, eqb-true, eqb-false, lt-ltb, leb-false}
+use Rattle.std.proofs.Math.Decide.{ℕ_discrete}
 use Rattle.mm_label.specs.Label.{Label}
 use Rattle.mm_arena.specs.declared.key.Key.{Key}
 use Rattle.mm_rules.specs.declared.refusal.Refusal.{Refusal}
@@ -9,47 +10,53 @@ use Rattle.mm_rules.specs.declared.refusal.Refusal.TheVariants.{NoResource}
 use Rattle.mm_rules.specs.declared.reply.Acquired.{Acquired}
 use Rattle.mm_rules.specs.declared.reply.Acquired.TheVariants as acquired
 use Rattle.mm_rules.specs.declared.reply.Settled.{Settled}
-use Rattle.mm_rules.specs.TableState.{TableState, owner_of, has_verdict, graph_of}
+use Rattle.mm_rules.specs.TableState.{TableState, owner_of, has_verdict}
 use Rattle.mm_rules.specs.Event.{Acquire, Settle, Step, acquire_tests, acquire_answer, acquire_change}
 use Rattle.mm_rules.specs.Laws.{Laws, AtRest}
+use Rattle.mm_rules.specs.Change.{take_back}
 use Rattle.mm_rules.specs.Victims.{IsOnCycle, OnlyCloserIsConvicted}
-use Rattle.mm_rules.proofs.Graph.Closes.{same_holders_keep, cycle_before}
+use Rattle.mm_rules.specs.TakeBack.{HasNoVictim, LeadsTo, WouldClose, IsRefused}
+use Rattle.mm_rules.proofs.States.Config.{event_config}
+use Rattle.mm_rules.proofs.States.TakeBack.{Queues, queues, closer_is_live, closes_where_led_back, closer_is_refused}
 use Rattle.mm_rules.proofs.States.Counts.{event_counts}
 use Rattle.mm_rules.proofs.States.EventsKeepLaws.{event_keeps}
-use Rattle.mm_rules.proofs.States.Outcome.{KeepsLaws, counting}
+use Rattle.mm_rules.proofs.States.Outcome.{KeepsLaws}
 use Rattle.mm_rules.proofs.States.Settle.{settle_gives_rest}
-use Rattle.mm_rules.proofs.States.SettleKeeps.{SettleKeeps, same_holders, settle_keeps}
+use Rattle.mm_rules.proofs.States.SettleKeeps.{SettleKeeps, settle_keeps}
 use Rattle.mm_rules.proofs.States.Victims.{closer_is_victim}
 use Rattle.mm_settled.specs.declared.reply.Locked.{Locked}
 use Rattle.mm_settled.specs.declared.reply.Locked.TheVariants.{Granted, Waits, Deadlock}
 use Rattle.mm_settled.specs.Calls.{has_room, Locks, WaitsFrom, IsDeadlock}
 use Rattle.mm_settled.specs.Grants.{grants}
-use Rattle.mm_settled.specs.private.Told.{told_by, has_owner, is_owned}
+use Rattle.mm_settled.specs.private.Told.{ToldBy, MayTakeBack, has_owner, is_owned}
 use Rattle.mm_settled.proofs.Lemmas.Accepted.{IsAccepted, accepted}
 use Rattle.mm_settled.proofs.Lemmas.Grants.{same_owners_grant_none}
-use Rattle.mm_settled.proofs.Lemmas.Quiet.{granted_quiet, idle_on_no_cycle}
 
-owners_by : (s t : TableState) (k h : Key) (r : ℕ) (l : Label) (o : Option Key) → acquire_answer s k o ≡ acquired.Waits h l → (m : ℕ) → t ≡ counting (acquire_change s k r o) m → t.owners ≡ s.owners
-owners_by s t k h r l None answer m is = absurd (cc)
-owners_by s t k h r l (Some g) answer m is = ap (λ (u : TableState). u.owners) is
+free_before : (s : TableState) (k : Key) (r : ℕ) (o : Option Key) → owner_of s r ≡ o → acquire_answer s k o ≡ acquired.Granted → owner_of s r ≡ None
+free_before s k r None owned answer = owned
+free_before s k r (Some h) owned answer = absurd (cc)
 
--- a request that waits leaves all owners
-wait_keeps_owners : (s t : TableState) (k h : Key) (r : ℕ) (l : Label) → Step (Acquire k r) s (Ok (acquired.Waits h l)) t → t.owners ≡ s.owners
-wait_keeps_owners s t k h r l step =
+-- what is granted nobody owned
+granted_was_free : (s t : TableState) (k : Key) (r : ℕ) → Step (Acquire k r) s (Ok acquired.Granted) t → owner_of s r ≡ None
+granted_was_free s t k r step =
     let change = acquire_change s k r (owner_of s r) in
-    let done : IsAccepted Acquired (acquire_tests s k r) (acquire_answer s k (owner_of s r)) change (acquired.Waits h l) t
-    = accepted (acquire_tests s k r) s (acquire_answer s k (owner_of s r)) change (acquired.Waits h l) t step in
-    owners_by s t k h r l (owner_of s r) done.answer (change.totals.accepted + 1) done.state
+    free_before s k r (owner_of s r) refl (accepted (acquire_tests s k r) s (acquire_answer s k (owner_of s r)) change acquired.Granted t step).answer
 
--- the answer tells whether the requester is on a cycle
-pub deadlock_iff : (old new : TableState) (k : Key) (r : ℕ) (reply : Result Locked Refusal) → Laws old → Locks old k r reply new → OnOk reply (IsTrue (IsDeadlock reply) ↔ IsOnCycle new k.process)
-deadlock_iff old new k r (Ok Granted) laws locks = (
+-- the answer tells whether the requester would close a cycle
+pub deadlock_iff : (old new : TableState) (k : Key) (r : ℕ) (reply : Result Locked Refusal) → Locks old k r reply new → OnOk reply (IsTrue (IsDeadlock reply) ↔ WouldClose old k r)
+deadlock_iff old new k r (Ok Granted) locks = (
   λ told. (let never : false ≡ true = told in absurd (cc)),
-  λ on. absurd (idle_on_no_cycle new k.process (granted_quiet old new k r laws locks).idle on),
+  λ would. (let never : None ≡ Some would.0 = sym (granted_was_free old new k r locks) ∙ would.1 in absurd (cc)),
 )
-deadlock_iff old new k r (Ok (Waits h)) laws locks = (λ told. (let never : false ≡ true = told in absurd (cc)), λ on. absurd (locks.1 on))
-deadlock_iff old new k r (Ok (Deadlock h)) laws locks = (λ told. locks.1, λ on. refl)
-deadlock_iff old new k r (Err refusal) laws locks = tt
+deadlock_iff old new k r (Ok (Waits h)) locks = (
+  λ told. (let never : false ≡ true = told in absurd (cc)),
+  λ would.
+      let same : Some would.0 ≡ Some h = sym would.1 ∙ locks.1 in
+      let e : would.0 ≡ h = cc in
+      absurd (locks.2 (rw e at would.2)),
+)
+deadlock_iff old new k r (Ok (Deadlock h)) locks = (λ told. (h, locks.owner, locks.closes), λ would. refl)
+deadlock_iff old new k r (Err refusal) locks = tt
 
 -- a request that is accepted is granted, where nobody owns the resource
 free_by : (s : TableState) (k : Key) (r : ℕ) (answer : Acquired) (o : Option Key) → has_owner (Ok o) ≡ false → acquire_answer s k o ≡ answer → answer ≡ acquired.Granted
@@ -83,6 +90,15 @@ pub lacks_room_both : (room owned : Bool) → (not room && owned) ≡ true → r
 lacks_room_both true owned lacks = absurd (cc)
 lacks_room_both false owned lacks = refl
 
+-- what is so after a request that waits, and was told this
+pub record IsTold (old : TableState) (k : Key) (r : ℕ) (told : Locked) (t : TableState) : Type 0 where
+  pub locks : Locks old k r (Ok told) t
+  pub none : HasNoVictim t
+  pub rest : AtRest t
+  pub grants : grants old t ≡ []
+  pub counts : old.totals.accepted < t.totals.accepted
+  pub config : t.config ≡ old.config
+
 module _ (old mid new : TableState) (k h : Key) (r : ℕ) (l : Label) (answer : Settled) (laws : Laws old) (rest : AtRest old)
     (asks : Step (Acquire k r) old (Ok (acquired.Waits h l)) mid) (settles : Step Settle mid (Ok answer) new) where
   after : KeepsLaws old mid
@@ -94,44 +110,70 @@ module _ (old mid new : TableState) (k h : Key) (r : ℕ) (l : Label) (answer : 
   keeps : SettleKeeps mid new
   keeps = settle_keeps mid new (Ok answer) settles
 
-  pub waiter_rests : AtRest new
-  waiter_rests = (settle_gives_rest mid new answer settles after.laws).at_rest
+  laws_mid : Laws mid
+  laws_mid = after.laws
 
-  pub waiter_alone : (v : ℕ) → v ≢ k.process → has_verdict new v ≡ has_verdict old v
-  waiter_alone = only.others
+  queued : Queues old k h r mid
+  queued = queues old mid k h r l asks
 
-  -- the settle leaves all holders, so cycles are the same before and after it
-  on_cycle_before : IsOnCycle new k.process → IsOnCycle mid k.process
-  on_cycle_before (cycle, is) = (cycle, cycle_before (graph_of mid) (graph_of new) (same_holders_keep (graph_of mid) (graph_of new) (same_holders mid new keeps)) k.process cycle is)
+  on_cycle : IsOnCycle mid k.process ↔ LeadsTo old h.process k.process
+  on_cycle = closes_where_led_back old mid k h r l asks laws
 
-  on_cycle_after : IsOnCycle mid k.process → IsOnCycle new k.process
-  on_cycle_after (cycle, is) =
-      (cycle, cycle_before (graph_of new) (graph_of mid) (same_holders_keep (graph_of new) (graph_of mid) (λ n. sym (same_holders mid new keeps n))) k.process cycle is)
+  module _ (some : IsFalse (nat_eq answer.verdicts 0)) where
+    closed : IsOnCycle mid k.process
+    closed = elim only.verdicts [ inl convicted ↦ convicted.0 | inr free ↦ absurd (eqb-false answer.verdicts 0 some free.1) ]
 
-  module _ (room : has_room old ≡ true) where
+    pub may_take_back : has_room old ≡ true → MayTakeBack new k
+    may_take_back room =
+        let few : old.totals.verdicts < 2 ^ 62 = ltb-true old.totals.verdicts (2 ^ 62) (and_parts (nat_lt (old.totals.accepted + 1) (2 ^ 62)) (nat_lt old.totals.verdicts (2 ^ 62)) room).1 in
+        let one : answer.verdicts ≡ 1 = elim only.verdicts [ inl convicted ↦ convicted.1 | inr free ↦ absurd (eqb-false answer.verdicts 0 some free.1) ] in
+        record {
+          live = closer_is_live old mid new k h r l answer asks settles;
+          verdict = only.closer.1 closed;
+          count = omega (arith, few, one, (event_counts (Acquire k r) old mid (Ok (acquired.Waits h l)) asks).1, (event_counts Settle mid new (Ok answer) settles).1);
+        }
+
+  new_rests : AtRest new
+  new_rests = (settle_gives_rest mid new answer settles laws_mid).at_rest
+
+  new_counts : old.totals.accepted < new.totals.accepted
+  new_counts = omega (arith, (event_counts (Acquire k r) old mid (Ok (acquired.Waits h l)) asks).0, (event_counts Settle mid new (Ok answer) settles).0)
+
+  module _ (none : HasNoVictim old) (room : has_room old ≡ true) where
     from : WaitsFrom old k r h new
     from = record { room = room; label = l; mid = mid; answer = answer; event = asks; settle = settles }
 
-    locks_by : (b : Bool) → nat_eq answer.verdicts 0 ≡ b → Locks old k r (Ok (if b then Waits h else Deadlock h)) new
-    locks_by true none = elim only.verdicts [
-      | inl convicted ↦ absurd (omega (arith, convicted.1, eqb-true answer.verdicts 0 none))
-      | inr free ↦ (
-        from,
-        (λ on. free.0 (on_cycle_before on)),
-        elim (cases_Bool (has_verdict new k.process)) [ inl verdict ↦ absurd (free.0 (only.closer.0 verdict)) | inr unconvicted ↦ unconvicted ],
-      )
-    ]
-    locks_by false some = elim only.verdicts [
-      | inl convicted ↦ (from, on_cycle_after convicted.0, only.closer.1 convicted.0)
-      | inr free ↦ absurd (eqb-false answer.verdicts 0 some free.1)
-    ]
+    waits : nat_eq answer.verdicts 0 ≡ true → IsTold old k r (Waits h) new
+    waits is =
+        let free : IsOnCycle mid k.process → ⊥ = elim only.verdicts [ inl convicted ↦ absurd (omega (arith, convicted.1, eqb-true answer.verdicts 0 is)) | inr free ↦ free.0 ] in
+        record {
+          locks = (from, queued.owner, λ led. free (on_cycle.1 led));
+          none = λ v. elim (ℕ_discrete v k.process) [
+            | yes e ↦ elim (cases_Bool (has_verdict new k.process)) [ inl verdict ↦ absurd (free (only.closer.0 verdict)) | inr unconvicted ↦ rw e unconvicted ]
+            | no apart ↦ only.others v apart ∙ none v
+          ];
+          rest = new_rests;
+          grants = same_owners_grant_none old new laws (keeps.owners ∙ queued.owners);
+          counts = new_counts;
+          config = event_config Settle mid new (Ok answer) settles ∙ event_config (Acquire k r) old mid (Ok (acquired.Waits h l)) asks;
+        }
 
-    pub waiter_locks : Locks old k r (Ok (told_by answer h)) new
-    waiter_locks = locks_by (nat_eq answer.verdicts 0) refl
+    declined : nat_eq answer.verdicts 0 ≡ false → IsTold old k r (Deadlock h) (take_back new k.process)
+    declined is =
+        let refused : IsRefused old (take_back new k.process) = closer_is_refused old mid new k h r l answer asks settles laws rest none (may_take_back is room).verdict in
+        record {
+          locks = record { owner = queued.owner; closes = on_cycle.0 (closed is); settled = new; waited = from; verdict = (may_take_back is room).verdict; back = refl; same = refused.same };
+          none = refused.none;
+          rest = refused.rest;
+          grants = same_owners_grant_none old (take_back new k.process) laws refused.same.owners;
+          counts = new_counts;
+          config = refused.same.config;
+        }
 
-  pub waiter_grants : grants old new ≡ []
-  waiter_grants = same_owners_grant_none old new laws (keeps.owners ∙ wait_keeps_owners old mid k h r l asks)
+    told_by : (told : Locked) (t : TableState) (b : Bool) → nat_eq answer.verdicts 0 ≡ b
+        → MatchBool b ((told ≡ Waits h) × (t ≡ new)) ((told ≡ Deadlock h) × (t ≡ take_back new k.process)) → IsTold old k r told t
+    told_by told t true is so = rw (so.0, so.1) (waits is)
+    told_by told t false is so = rw (so.0, so.1) (declined is)
 
-  -- an event and a settle were counted
-  pub waiter_counts : old.totals.accepted < new.totals.accepted
-  waiter_counts = omega (arith, (event_counts (Acquire k r) old mid (Ok (acquired.Waits h l)) asks).0, (event_counts Settle mid new (Ok answer) settles).0)
+    pub is_told : (told : Locked) (t : TableState) → ToldBy new answer k h told t → IsTold old k r told t
+    is_told told t so = told_by told t (nat_eq answer.verdicts 0) refl so

@@ -4,8 +4,8 @@ use Rattle.mm_arena.specs.declared.key.Key.{Key}
 use Rattle.mm_rules.specs.declared.refusal.Refusal.{Refusal}
 use Rattle.mm_rules.specs.declared.refusal.Refusal.TheVariants.{CountsExhausted}
 use Rattle.mm_rules.specs.TableState.{TableState, key_of, owner_of, wait_of, waiters_of}
-use Rattle.mm_rules.specs.Change.{hand_over, vacate, abort}
-use Rattle.mm_rules.specs.Event.{Event, Begin, Acquire, Release, Finish, Abort, Step, begin_tests, acquire_tests, acquire_answer, acquire_change, release_tests, release_answer, finish_tests, abort_tests}
+use Rattle.mm_rules.specs.Change.{hand_over, vacate}
+use Rattle.mm_rules.specs.Event.{Event, Begin, Acquire, Release, Finish, Step, begin_tests, acquire_tests, acquire_answer, acquire_change, release_tests, release_answer, finish_tests}
 use Rattle.mm_rules.specs.Laws.{Laws}
 use Rattle.mm_settled.specs.declared.reply.Grant.{Grant}
 use Rattle.mm_settled.specs.Calls.{has_room, Refuses}
@@ -26,9 +26,6 @@ release_refused s t k r refusal step = refused (release_tests s k r) s (release_
 
 pub finish_refused : (s t : TableState) (k : Key) (refusal : Refusal) → Step (Finish k) s (Err refusal) t → t ≡ s
 finish_refused s t k refusal step = refused (finish_tests s k) s tt (vacate s k.process) refusal t step
-
-pub abort_refused : (s t : TableState) (k : Key) (refusal : Refusal) → Step (Abort k) s (Err refusal) t → t ≡ s
-abort_refused s t k refusal step = refused (abort_tests s k) s tt (abort s k.process) refusal t step
 
 -- the table refused it, since there was room to count it
 pub refuses : (e : Event) (s t : TableState) (refusal : Refusal) → has_room s ≡ true → Step e s (Err refusal) t → t ≡ s → Refuses e s refusal t

@@ -1,11 +1,13 @@
 -- After a call by which resources are handed over the table is at rest again, and what it tells is true of the whole call.
-use Rattle.std.proofs.Common.{◌≡◌, ◌↔◌, ◌<◌, ◌+◌, ◌^◌, ℕ, Bool, true, false, List, None, Ok, slice_index_or, inl, inr, refl, sym, ap, subst, ◌∙◌, arith}
+use Rattle.std.proofs.Common.{◌≡◌, ◌≢◌, ◌↔◌, ◌<◌, ◌+◌, ◌^◌, ℕ, Bool, true, false, List, None, Ok, is_some, slice_index_or, inl, inr, refl, sym, ap, subst, ◌∙◌, arith}
 use Rattle.std.specs.Prelude.{nat_lt}
 use Rattle.std.proofs.lemmas.Bool.{cases_Bool, and_parts, ltb-true, lt-leb}
 use Rattle.mm_rules.specs.TableState.{TableState, owner_of, wait_of, waited_for, has_verdict}
 use Rattle.mm_rules.specs.Event.{Event, Settle, Answer, Step, counts_exhausted}
 use Rattle.mm_rules.specs.Laws.{Laws, AtRest, Counts, verdicts_made}
 use Rattle.mm_rules.specs.Victims.{BeginsWait}
+use Rattle.mm_rules.specs.TakeBack.{HasNoVictim}
+use Rattle.std.proofs.Math.Decide.{ℕ_discrete}
 use Rattle.mm_rules.proofs.States.Config.{event_config}
 use Rattle.mm_rules.proofs.States.Counts.{event_counts}
 use Rattle.mm_rules.proofs.States.EventsKeepLaws.{event_keeps}
@@ -18,7 +20,7 @@ use Rattle.mm_rules.proofs.States.SettleKeeps.{SettleKeeps, settle_keeps}
 use Rattle.mm_settle_lemmas.specs.Touched.{is_changed, changed_processes}
 use Rattle.mm_settle_lemmas.specs.Shown.{IdleShowTheSame}
 use Rattle.mm_settle_lemmas.proofs.Lemmas.Told.{unchanged_is}
-use Rattle.mm_settled.specs.Calls.{has_room, NoneWaits, Rests, Made, OthersKeepVerdicts}
+use Rattle.mm_settled.specs.Calls.{has_room, NoneWaits, Rests, Made}
 use Rattle.mm_settled.specs.Grants.{grants, EndsWaits}
 use Rattle.mm_settled.specs.declared.reply.Grant.{Grant}
 use Rattle.mm_settled.specs.private.Lists.{ComesToRest}
@@ -60,13 +62,26 @@ hands_on_still s mid new n p on config owners waits verdicts =
       verdicts = λ v apart. verdicts v ∙ on.verdicts v apart;
     }
 
+-- no verdict stands still, where n waits for nothing
+none_still : (old new : TableState) (n : ℕ) → Laws new → ((v : ℕ) → v ≢ n → has_verdict new v ≡ has_verdict old v) → wait_of new n ≡ None → HasNoVictim old → HasNoVictim new
+none_still old new n laws others idle before v = elim (ℕ_discrete v n) [
+  | no apart ↦ others v apart ∙ before v
+  | yes e ↦ elim (cases_Bool (has_verdict new v)) [
+    | inr none ↦ none
+    | inl verdict ↦
+        let waits : is_some (wait_of new v) ≡ true = laws.lawful.well_formed.verdicts v verdict in
+        let never : true ≡ false = sym waits ∙ ap is_some (ap (wait_of new) e ∙ idle) in
+        absurd (cc)
+  ]
+]
+
 -- a call by which process n hands resources over
 pub record EndsAtRest (e : Event) (old : TableState) (answer : Answer e) (new : TableState) (n : ℕ) (granted : List Grant) : Type 0 where
   pub made : Made e old answer new
-  pub others : OthersKeepVerdicts old new n
   pub are_granted : granted ≡ grants old new
   pub ended : EndsWaits old new n granted
   pub rest : AtRest new
+  pub none : HasNoVictim old → HasNoVictim new
   pub config : new.config ≡ old.config
 
 module _ (e : Event) (old mid new : TableState) (answer : Answer e) (laws : Laws old) (rest : AtRest old) (event : Step e old (Ok answer) mid) where
@@ -129,7 +144,7 @@ module _ (e : Event) (old mid new : TableState) (answer : Answer e) (laws : Laws
     all_granted = sym (grants_alike old mid new kept.1)
 
     made : has_room old ≡ true → Made e old answer new
-    made room = record { room = room; mid = mid; event = event; rests = rests; quiet = is_quiet; verdicts = gives_none }
+    made room = record { room = room; mid = mid; event = event; rests = rests; quiet = is_quiet }
 
     module _ (n : ℕ) (p : ℕ → Bool) (on : HandsOn old n p mid) where
       on_again : HandsOn old n p new
@@ -140,9 +155,9 @@ module _ (e : Event) (old mid new : TableState) (answer : Answer e) (laws : Laws
           let all : granted ≡ grants old new = is ∙ all_granted in
           record {
             made = made room;
-            others = on_again.verdicts;
             are_granted = all;
             ended = subst (EndsWaits old new n) (sym all) (ends_waits old new n p laws on_again laws_again);
             rest = rests_again;
+            none = λ before. none_still old new n laws_again on_again.verdicts on_again.own before;
             config = same_config;
           }

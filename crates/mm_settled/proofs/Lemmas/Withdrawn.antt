@@ -1,5 +1,5 @@
 -- After a withdrawal the table is at rest again, and what it tells is true of the whole call.
-use Rattle.std.proofs.Common.{◌≡◌, ◌≢◌, ◌<◌, ◌↔◌, ℕ, Bool, true, false, if◌then◌else◌, List, [], Option, Some, None, is_some, slice_index_or, Result, Ok, Err, IsErr, IsErrAnd, MatchBool, inl, inr, refl, sym, ap, subst, ◌∙◌, arith}
+use Rattle.std.proofs.Common.{◌≡◌, ◌≢◌, ◌<◌, ◌↔◌, ℕ, Bool, true, false, if◌then◌else◌, List, Option, Some, None, is_some, slice_index_or, Result, Ok, Err, IsErr, IsErrAnd, MatchBool, inl, inr, refl, sym, ap, subst, ◌∙◌, arith}
 use Rattle.std.specs.Option.{option_map_or}
 use Rattle.std.proofs.lemmas.Bool.{cases_Bool, cases_eq}
 use Rattle.mm_arena.specs.declared.key.Key.{Key}
@@ -22,11 +22,9 @@ use Rattle.mm_settle_lemmas.specs.Shown.{IdleShowTheSame}
 use Rattle.mm_settle_lemmas.proofs.Lemmas.Told.{unchanged_is}
 use Rattle.mm_settle_lemmas.proofs.Lemmas.Touched.{block_else}
 use Rattle.mm_settled.specs.Calls.{has_room, NoneWaits, MadeWithdrawal, MakesWithdrawal}
-use Rattle.mm_settled.specs.Grants.{grants}
 use Rattle.mm_settled.specs.private.Lists.{ComesToRest}
 use Rattle.mm_settled.proofs.Lemmas.Accepted.{refused}
 use Rattle.mm_settled.proofs.Lemmas.Changed.{listed_changed}
-use Rattle.mm_settled.proofs.Lemmas.Grants.{same_owners_grant_none}
 
 -- who is refused as `Carried` is behind a victim
 pub withdrawal_carried : (k : Key) (s t : TableState) (reply : Result (Unit {0}) Refusal) → Laws s → MakesWithdrawal k s reply t → reply ≡ Err Carried → IsBehindVictim s k.process
@@ -119,9 +117,6 @@ module _ (k : Key) (old mid new : TableState) (laws : Laws old) (rest : AtRest o
     pub withdrawn_config : new.config ≡ old.config
     withdrawn_config = kept.0 ∙ leaves.config
 
-    pub withdrawn_grants : grants old new ≡ []
-    withdrawn_grants = same_owners_grant_none old new laws (kept.1 ∙ leaves.owners)
-
     -- a settle is counted, so the table is another one after it
     is_quiet : (new ≡ mid) ↔ NoneWaits mid (changed_processes old mid)
     is_quiet = elim comes [
@@ -139,5 +134,4 @@ module _ (k : Key) (old mid new : TableState) (laws : Laws old) (rest : AtRest o
       event = event;
       rests = elim comes [ inl quiet ↦ inl quiet.1 | inr settled ↦ inr (settled.0, settled.1) ];
       quiet = is_quiet;
-      verdicts = gives_none;
     }

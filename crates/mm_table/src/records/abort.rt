@@ -1,5 +1,5 @@
 //! A transaction under a verdict takes back its wait, and ends.
-ghost use Rattle.std.specs.Prelude.{◌≡◌, ◌<◌, ◌^◌, IsTrue, OnOk, length};
+ghost use Rattle.std.specs.Prelude.{◌≡◌, ◌≤◌, ◌<◌, ◌^◌, IsTrue, OnOk, length};
 ghost use Rattle.mm_rules.specs.TableState.{is_live, has_verdict, is_waiting};
 ghost use Rattle.mm_rules.specs.Change.{vacate_fits, take_back};
 ghost use Rattle.mm_rules.specs.Event.{Gives, allowed, aborted, abort_tests};
@@ -42,6 +42,20 @@ impl Records {
             return Err(Refusal::LabelsExhausted);
         }
         Ok(())
+    }
+
+    /// Takes back the wait and the verdict of a transaction with a verdict, counts an abort, and adds the transaction to the touched.
+    pub fn let_go_on(&mut self, key: Key, touched: &mut BitSet)
+        requires laws { Laws self.old }
+        requires live { IsTrue (is_live self.old key) }
+        requires verdict { IsTrue (has_verdict self.old key.process) }
+        requires count { self.old.totals.verdicts ≤ 2 ^ 62 }
+        requires sized { length touched.old ≡ self.old.config.processes }
+        ensures state { self.new ≡ take_back self.old key.process }
+        ensures touched { Touches self.old self.new touched.old touched.new }
+    {
+        self.take_back(key);
+        touched.add(key.process);
     }
 
     /// Takes back the wait and the verdict of a transaction that waits, and counts an abort. Constant time.

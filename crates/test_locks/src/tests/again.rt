@@ -29,8 +29,10 @@ enum Plan {
     Refused,
     /// It returns a value.
     Rich,
-    /// It closes a cycle.
+    /// It would close a cycle.
     Closes,
+    /// It would close a cycle, goes back to a savepoint, and asks again.
+    GoesBack,
 }
 
 /// Waits until the other thread waits for `a`, and asks for what that one owns.
@@ -44,6 +46,23 @@ fn close<R: Wait>(
     let events = locks.events(rt);
     gate.wait(rt);
     await_events(rt, locks, events.saturating_add(2));
+    transaction.lock(b"b")?;
+    Ok(7)
+}
+
+/// Asks again once it has given back what the other one waits for.
+fn go_on<R: Wait>(
+    rt: &R,
+    locks: &Locks,
+    gate: &Barrier,
+    transaction: &mut Transaction<'_, R>,
+) -> Result<u32, WorkError> {
+    transaction.lock(b"c")?;
+    let told = close(rt, locks, gate, transaction);
+    if !matches!(told, Err(WorkError::Refused(LockError::Deadlock))) {
+        return Err(WorkError::Poor);
+    }
+    transaction.unlock(b"a")?;
     transaction.lock(b"b")?;
     Ok(7)
 }
@@ -68,6 +87,7 @@ impl Plan {
             Plan::Refused => ask_for_none(transaction),
             Plan::Rich => Ok(7),
             Plan::Closes => close(rt, locks, gate, transaction),
+            Plan::GoesBack => go_on(rt, locks, gate, transaction),
         }
     }
 
@@ -119,6 +139,16 @@ pub fn give_up<R: Wait + Clock + Abort>(
     let outcome = Plan::Closes.run(rt, locks, gate, most);
     let is_told = matches!(outcome, Err(WorkError::Refused(LockError::Deadlock)));
     holds(rt, "the last error is a deadlock", is_told);
+}
+
+/// One of two stands in the way of the other one, which comes to its end by one attempt all the same.
+pub fn go_back<R: Wait + Clock + Abort>(rt: &R, locks: &Locks, gate: &Barrier, number: usize) {
+    if number == 0 {
+        take(rt, locks, gate, &STANDS_IN_THE_WAY, 0);
+        return;
+    }
+    let outcome = Plan::GoesBack.run(rt, locks, gate, 1);
+    holds(rt, "a value", matches!(outcome, Ok(7)));
 }
 
 /// As `give_up`, with eleven attempts. The length of a pause is drawn from the transaction's key alone, and each attempt has keys of its own

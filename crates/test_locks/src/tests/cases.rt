@@ -22,7 +22,8 @@ enum Work {
     GiveUp(u32),
     Pause,
     Patience,
-    BehindVictim,
+    BehindDeadlock,
+    GoBack,
     Wakes,
 }
 
@@ -42,7 +43,8 @@ impl Work {
             Work::GiveUp(attempts) => again::give_up(rt, locks, gate, number, attempts),
             Work::Pause => again::pause(rt, locks, gate, number),
             Work::Patience => patience::each_time_passes(rt, locks),
-            Work::BehindVictim => patience::behind_a_victim(rt, locks, gate, hand, number),
+            Work::BehindDeadlock => patience::behind_a_deadlock(rt, locks, gate, hand, number),
+            Work::GoBack => again::go_back(rt, locks, gate, number),
             Work::Wakes => wakes::one_wakes_all(rt, locks, gate, number),
         }
     }
@@ -183,14 +185,26 @@ fn waits_its_time(rt: HostRuntime) {
     on_locks(&rt, rt.alloc(), &case);
 }
 
-/// A request behind a victim whose time is up is taken back once the victim has aborted.
+/// A request behind one that was told of a deadlock is taken back once its time is up. The two of the deadlock commit, by a savepoint.
 #[test]
-fn behind_a_victim(rt: HostRuntime) {
+fn behind_a_deadlock(rt: HostRuntime) {
     let case = Case {
-        transactions: 4,
+        transactions: 3,
         threads: 3,
-        work: Work::BehindVictim,
-        totals: [103, 101, 2, 1],
+        work: Work::BehindDeadlock,
+        totals: [3, 2, 1, 1],
+        ..TWO
+    };
+    on_locks(&rt, rt.alloc(), &case);
+}
+
+/// Work that goes back to a savepoint after a deadlock, and then succeeds, is committed.
+#[test]
+fn goes_back_to_a_savepoint(rt: HostRuntime) {
+    let case = Case {
+        names: 3,
+        work: Work::GoBack,
+        totals: [2, 2, 0, 1],
         ..TWO
     };
     on_locks(&rt, rt.alloc(), &case);

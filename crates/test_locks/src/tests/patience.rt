@@ -1,12 +1,12 @@
 //! Requests that are not granted in their time, by a clock of the test's own.
 use crate::tests::helpers::{await_events, begin, commits, holds, owns, same, takes};
 use mm_locks::{LockError, Locks};
+use std::io;
 use std::process::Abort;
 use std::sync::atomic::AtomicU64;
 use std::sync::atomic::Ordering::SeqCst;
 use std::sync::{Barrier, Wait};
 use std::time::{Clock, Duration};
-use std::{io, thread};
 
 /// The longest time, in milliseconds, that a request is given.
 const LONGEST: u64 = 6;
@@ -85,40 +85,31 @@ pub fn each_time_passes<R: Wait + Abort>(rt: &R, locks: &Locks) {
     commits(rt, owner);
 }
 
-/// How many transactions end while the victim has yet to abort.
-const ENDS: u32 = 100;
-
-/// Owns `a`, waits for `b`, and keeps both until all have met.
-fn wait_for_victim<R: Wait + Abort>(rt: &R, locks: &Locks, gate: &Barrier) {
+/// Owns `a`, and waits for `b`.
+fn wait_first<R: Wait + Abort>(rt: &R, locks: &Locks, gate: &Barrier) {
     let mut first = begin(rt, locks);
     takes(rt, &mut first, b"a");
     gate.wait(rt);
     takes(rt, &mut first, b"b");
-    gate.wait(rt);
     commits(rt, first);
 }
 
-/// Owns `b`, and is told of a deadlock once the two others wait for it. Moves the clock, lets others end, and aborts.
-fn be_victim<R: Wait + Abort>(rt: &R, locks: &Locks, gate: &Barrier, hand: &Hand) {
-    let mut victim = begin(rt, locks);
-    takes(rt, &mut victim, b"b");
+/// Owns `b`, and is told of a deadlock once the two others wait for it. Moves the clock, and does nothing until one of the two has taken its
+/// request back. Then it gives `b` back, which it locked since its savepoint, asks for both names again, and commits.
+fn be_told<R: Wait + Abort>(rt: &R, locks: &Locks, gate: &Barrier, hand: &Hand) {
+    let mut told = begin(rt, locks);
+    takes(rt, &mut told, b"b");
     gate.wait(rt);
     // Three begins, two locks, two waits of two events each.
     await_events(rt, locks, 9);
-    same(rt, owns(victim.lock(b"a")), Err(LockError::Deadlock));
+    same(rt, owns(told.lock(b"a")), Err(LockError::Deadlock));
+    let events = locks.events(rt);
     hand.time.store(2, SeqCst);
-    for _ in rt.forever() {
-        if hand.readings.load(SeqCst) > 0 {
-            break;
-        }
-        thread::yield_now();
-    }
-    for _ in 0..ENDS {
-        commits(rt, begin(rt, locks));
-        thread::yield_now();
-    }
-    drop(victim);
-    gate.wait(rt);
+    await_events(rt, locks, events.saturating_add(1));
+    same(rt, owns(told.unlock(b"b")), Ok(true));
+    takes(rt, &mut told, b"a");
+    takes(rt, &mut told, b"b");
+    commits(rt, told);
 }
 
 /// Waits for `b` behind the other one, with a time, and gives up.
@@ -134,13 +125,11 @@ fn give_up_behind<R: Wait + Abort>(rt: &R, locks: &Locks, gate: &Barrier, hand: 
     await_events(rt, locks, 7);
     let answer = owns(waiter.lock_for(b"b", Duration::from_millis(1)));
     same(rt, answer, Err(LockError::TimedOut));
-    drop(waiter);
-    gate.wait(rt);
 }
 
-/// Of three threads one is told of a deadlock, and another one waits behind it, whose time is up then: it cannot take its request back until
-/// the victim aborts. It tries again after each end, the last of which makes it possible, and does not read the clock again.
-pub fn behind_a_victim<R: Wait + Abort>(
+/// Of three threads one is told of a deadlock, and another one waits behind it, whose time is up then: it takes its request back at once. The
+/// two of the deadlock commit.
+pub fn behind_a_deadlock<R: Wait + Abort>(
     rt: &R,
     locks: &Locks,
     gate: &Barrier,
@@ -148,8 +137,8 @@ pub fn behind_a_victim<R: Wait + Abort>(
     thread: usize,
 ) {
     match thread {
-        0 => wait_for_victim(rt, locks, gate),
-        1 => be_victim(rt, locks, gate, hand),
+        0 => wait_first(rt, locks, gate),
+        1 => be_told(rt, locks, gate, hand),
         _ => give_up_behind(rt, locks, gate, hand),
     }
     same(rt, hand.readings.load(SeqCst), 1);

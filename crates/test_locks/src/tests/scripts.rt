@@ -115,10 +115,9 @@ fn begins_after_a_sleep(rt: HostRuntime) {
     on_rows(&rt, rt.alloc(), 2, &BEGINS_AFTER_A_SLEEP, [3, 1, 2, 0]);
 }
 
-/// One owns `a`, and waits for `b` until the other one is rolled back. That one closes the cycle at the second of three names, after two
-/// begins, two locks and a wait: it keeps the first one, does not own the third, and each further call is refused. So is its commit, which
-/// rolls it back.
-static STOPS_AT_A_DEADLOCK: [Row; 14] = [
+/// One owns `a`, and waits for `b` until the other one ends. That one would close a cycle at the second of three names, after two begins, two
+/// locks and a wait: it keeps the first one, does not own the third, and goes on. It is told the same again, since it gave nothing back.
+static STOPS_AT_A_DEADLOCK: [Row; 16] = [
     Row(0, Step::Begin),
     Row(0, Step::Call(Call::Lock(b"a"), OWNS)),
     Row(1, Step::Begin),
@@ -130,14 +129,16 @@ static STOPS_AT_A_DEADLOCK: [Row; 14] = [
     Row(1, Step::Call(Call::LockAll(&[b"c", b"a", b"d"]), DEADLOCK)),
     Row(1, Step::AreBusy(&[b"b", b"c"])),
     Row(1, Step::AreFree(&[b"d"])),
-    Row(1, Step::Call(Call::Lock(b"z"), DEADLOCK)),
-    Row(1, Step::CommitsNot(LockError::Deadlock)),
+    Row(1, Step::Call(Call::TryLock(b"a"), OTHERS_OWN)),
+    Row(1, Step::Call(Call::LockAll(&[b"z", b"a"]), DEADLOCK)),
+    Row(1, Step::AreBusy(&[b"z"])),
+    Row(1, Step::Commit),
     Row(0, Step::Commit),
 ];
 
 #[test]
 fn stops_at_a_deadlock(rt: HostRuntime) {
-    on_rows(&rt, rt.alloc(), 2, &STOPS_AT_A_DEADLOCK, [4, 1, 3, 1]);
+    on_rows(&rt, rt.alloc(), 2, &STOPS_AT_A_DEADLOCK, [5, 2, 3, 2]);
 }
 
 /// Owns `b` and waits for `a` before an attempt of another one closes the cycle.

@@ -56,8 +56,6 @@ pub enum Step {
     Call(Call, Answer),
     /// Commits its transaction.
     Commit,
-    /// A commit of its transaction is refused so, and the transaction rolled back.
-    CommitsNot(LockError),
     /// Drops its transaction.
     Drop,
 }
@@ -118,10 +116,6 @@ impl Step {
             Step::BeginWith(names) => *transaction = Some(begin_with(rt, locks, names)),
             Step::Call(call, answer) => make_call(rt, transaction, call, answer),
             Step::Commit => commits(rt, transaction.take().expect(rt, "a transaction")),
-            Step::CommitsNot(error) => {
-                let transaction = transaction.take().expect(rt, "a transaction");
-                same(rt, owns(transaction.commit()), Err(error));
-            }
             Step::Drop => drop(transaction.take()),
         }
     }

@@ -1,34 +1,43 @@
 //! What two threads do.
-use crate::tests::helpers::{is_done, same, session};
-use mm_thin_locks::{LockError, Session, ThinLocks};
+use crate::tests::helpers::{is_done, same, session, tried};
+use mm_thin_locks::{LockError, Session, ThinLocks, Transaction};
 use std::process::Abort;
 use std::sync::{Barrier, Wait};
 use std::time::Clock;
 
-/// Locks the one name and then the other, and commits. Returns whether it was told of a deadlock.
-fn cross<R: Wait + Clock + Abort>(rt: &R, session: &mut Session<'_, R>, names: [&[u8]; 2]) -> bool {
-    let mut transaction = session.begin();
-    same(rt, is_done(transaction.lock(names[0])), Ok(true));
-    match is_done(transaction.lock(names[1])) {
-        Err(LockError::Deadlock) => {
-            same(
-                rt,
-                is_done(transaction.lock(b"third")),
-                Err(LockError::Deadlock),
-            );
-            same(
-                rt,
-                is_done(transaction.unlock(names[0])),
-                Err(LockError::Deadlock),
-            );
-            same(rt, is_done(transaction.commit()), Err(LockError::Deadlock));
-            true
+/// Locks a name and commits. After a deadlock the transaction gives the other one back, which it locked since its savepoint, and asks for both
+/// again. Returns how often it was told of one.
+fn go_on<R: Wait + Clock + Abort>(
+    rt: &R,
+    transaction: &mut Transaction<'_, '_, R>,
+    names: [&[u8]; 2],
+) -> u64 {
+    let mut deadlocks = 0u64;
+    for _ in rt.forever() {
+        match is_done(transaction.lock(names[1])) {
+            Err(LockError::Deadlock) => {
+                deadlocks = deadlocks.wrapping_add(1);
+                same(rt, tried(transaction.try_lock(names[1])), Ok(false));
+                let again = is_done(transaction.lock(names[1]));
+                same(rt, again, Err(LockError::Deadlock));
+                same(rt, is_done(transaction.unlock(names[0])), Ok(true));
+                same(rt, is_done(transaction.lock(names[0])), Ok(true));
+            }
+            answer => {
+                same(rt, answer, Ok(true));
+                return deadlocks;
+            }
         }
-        answer => {
-            same(rt, answer, Ok(true));
-            same(rt, is_done(transaction.commit()), Ok(true));
-            false
-        }
+    }
+    unreachable!()
+}
+
+/// What the two threads lock: a name of its own, before its savepoint, and two names in opposite orders.
+fn names_of(number: usize) -> (&'static [u8], [&'static [u8]; 2]) {
+    if number == 0 {
+        (b"first", [b"left", b"right"])
+    } else {
+        (b"second", [b"right", b"left"])
     }
 }
 
@@ -40,22 +49,35 @@ pub fn cross_often<R: Wait + Clock + Abort>(
     number: usize,
 ) -> u64 {
     let mut session = session(rt, locks);
-    let names: [&[u8]; 2] = if number == 0 {
-        [b"left", b"right"]
-    } else {
-        [b"right", b"left"]
-    };
+    let (own, names) = names_of(number);
     gate.wait(rt);
-    let mut committed = 0u64;
-    for _ in rt.forever() {
-        if committed >= 200 {
-            return committed;
-        }
-        if !cross(rt, &mut session, names) {
-            committed = committed.wrapping_add(1);
-        }
+    for _ in 0..200 {
+        let mut transaction = session.begin();
+        same(rt, is_done(transaction.lock(own)), Ok(true));
+        same(rt, is_done(transaction.lock(names[0])), Ok(true));
+        let _deadlocks = go_on(rt, &mut transaction, names);
+        same(rt, is_done(transaction.commit()), Ok(true));
     }
-    unreachable!()
+    200
+}
+
+/// Two threads lock a name each before either asks for that of the other one. One of them is told of the deadlock, once, and both commit. Returns
+/// 1 for the commit, and 10 for each deadlock.
+pub fn cross_once<R: Wait + Clock + Abort>(
+    rt: &R,
+    locks: &ThinLocks,
+    gate: &Barrier,
+    number: usize,
+) -> u64 {
+    let mut session = session(rt, locks);
+    let (own, names) = names_of(number);
+    let mut transaction = session.begin();
+    same(rt, is_done(transaction.lock(own)), Ok(true));
+    same(rt, is_done(transaction.lock(names[0])), Ok(true));
+    gate.wait(rt);
+    let deadlocks = go_on(rt, &mut transaction, names);
+    same(rt, is_done(transaction.commit()), Ok(true));
+    deadlocks.wrapping_mul(10).wrapping_add(1)
 }
 
 /// More names than a worker has records.

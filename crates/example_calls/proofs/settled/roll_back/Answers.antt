@@ -1,9 +1,9 @@
-use Rattle.mm_rules.specs.Event.{Abort}
+use Rattle.mm_rules.specs.Event.{Finish}
 use Rattle.mm_settled.specs.Calls.{Made}
-use Rattle.example_calls.proofs.RolledBack.{aborted_is_free}
+use Rattle.example_calls.proofs.RolledBack.{ended_owns_nothing}
 use Rattle.example_calls.proofs.settled.roll_back.Goals as goal
 
-pub returns-clause-free : goal.returns-clause-free
-returns-clause-free c =
-    let made : Made (Abort c.args.key) c.args.table.now.table tt c.abort.new.self.table = rw c.in_ok-abort.was at c.abort.ensures.makes in
-    aborted_is_free c.args.table.now.table c.abort.new.self.table c.args.key c.is_at_rest.ensures.laws made
+pub returns-in-Ok-clause-rolled_back : goal.returns-in-Ok-clause-rolled_back
+returns-in-Ok-clause-rolled_back c =
+    let made : Made (Finish c.args.key) c.args.table.now.table tt c.finish-answer.new.self.table = rw c.in-Ok.is at c.finish-answer.ensures.makes in
+    λ is. ended_owns_nothing c.args.table.now.table c.finish-answer.new.self.table c.args.key c.is_at_rest.ensures.laws made

@@ -28,21 +28,21 @@ refused_answer : (s : TableState) (k : Key) (n : ℕ) (reply : Result Lock Refus
 refused_answer s k n (Ok answer) refusal is why = absurd (cc)
 refused_answer s k n (Err other) refusal is why = (refl, subst (IsWhy s k n) (sym is.1) why)
 
-pub returns-in_err-may_ask-clause-answers : goal.returns-in_err-may_ask-clause-answers
-returns-in_err-may_ask-clause-answers c =
+pub returns-in_err-may_ask : goal.returns-in_err-may_ask
+returns-in_err-may_ask c =
     let s = c.args.table.now.table in
     refused_answer s c.args.key c.args.number c.from_residual.result c.in_err-may_ask.field-0.0 c.from_residual.ensures
     (inl (ap (λ a. first_refusal a (may_count s)) (ap (λ (t : TableState). may_ask t c.args.key) (sym c.table.ensures) ∙ sym c.in_err-may_ask.ensures)))
 
-pub returns-in_err-may_count-clause-answers : goal.returns-in_err-may_count-clause-answers
-returns-in_err-may_count-clause-answers c =
+pub returns-in_err-may_count : goal.returns-in_err-may_count
+returns-in_err-may_count c =
     let s = c.args.table.now.table in
     refused_answer s c.args.key c.args.number c.from_residual-in_err-may_count.result c.in_err-may_count.field-0.0 c.from_residual-in_err-may_count.ensures
     (inl (ap (λ a. first_refusal a (may_count s)) (ap (λ (t : TableState). may_ask t c.args.key) (sym c.table.ensures) ∙ sym c.in_ok-may_ask.ensures)
     ∙ (ap may_count (sym c.table-2.ensures) ∙ sym c.in_err-may_count.ensures)))
 
-pub returns-in_err-is_held-clause-answers : goal.returns-in_err-is_held-clause-answers
-returns-in_err-is_held-clause-answers c =
+pub returns-in_err-is_held : goal.returns-in_err-is_held
+returns-in_err-is_held c =
     let s = c.args.table.now.table in
     let may = asks_both s c.args.key (ap (λ (t : TableState). may_ask t c.args.key) (sym c.table.ensures) ∙ sym c.in_ok-may_ask.ensures) (ap may_count (sym c.table-2.ensures) ∙ sym c.in_ok-may_count.ensures) in
     let lacks = subst (λ (t : TableState). LacksLabel t c.args.key c.args.number c.in_err-is_held.field-0.0) c.table-3.ensures c.in_err-is_held.ensures.refused in
@@ -50,8 +50,8 @@ returns-in_err-is_held-clause-answers c =
 
 -- ---- it owns it already
 
-pub returns-then-branch-clause-answers : goal.returns-then-branch-clause-answers
-returns-then-branch-clause-answers c =
+pub returns-then-branch : goal.returns-then-branch
+returns-then-branch c =
     let s = c.args.table.now.table in
     let may = asks_both s c.args.key (ap (λ (t : TableState). may_ask t c.args.key) (sym c.table.ensures) ∙ sym c.in_ok-may_ask.ensures) (ap may_count (sym c.table-2.ensures) ∙ sym c.in_ok-may_count.ensures) in
     (may, (subst (λ (t : TableState). owner_of t c.args.number ≡ Some c.args.key) c.table-3.ensures (c.in_ok-is_held.ensures.held.0 c.if-branch.true), refl))
@@ -83,15 +83,15 @@ lock_number-requires c =
       label = label_is_left s t c.args.key c.args.number c.in_ok-is_held.field-0 c.table-3.ensures c.if-branch.false c.in_ok-is_held.ensures.held c.in_ok-is_held.ensures.label;
     }
 
-pub returns-in-Granted-clause-answers : goal.returns-in-Granted-clause-answers
-returns-in-Granted-clause-answers c =
+pub returns-in-Granted : goal.returns-in-Granted
+returns-in-Granted c =
     let s = c.args.table.now.table in
     let may = asks_both s c.args.key (ap (λ (t : TableState). may_ask t c.args.key) (sym c.table.ensures) ∙ sym c.in_ok-may_ask.ensures) (ap may_count (sym c.table-2.ensures) ∙ sym c.in_ok-may_count.ensures) in
     let locks : Locks s c.args.key c.args.number (Ok locked.Granted) c.lock_number.new.table.table = rw c.in-Granted.is at c.lock_number.ensures.locks in
     (may, locks)
 
-pub returns-in-Waits-clause-answers : goal.returns-in-Waits-clause-answers
-returns-in-Waits-clause-answers c =
+pub returns-in-Waits : goal.returns-in-Waits
+returns-in-Waits c =
     let s = c.args.table.now.table in
     let u = c.lock_number.new.table.table in
     let h = c.in-Waits.holder in
@@ -100,12 +100,12 @@ returns-in-Waits-clause-answers c =
     let label = label_is_left s c.table-3.result.now c.args.key c.args.number c.in_ok-is_held.field-0 c.table-3.ensures c.if-branch.false c.in_ok-is_held.ensures.held c.in_ok-is_held.ensures.label in
     (may, (label h (queued_is s u c.args.key h c.args.number locks.0).held, locks))
 
-pub returns-in-Deadlock-clause-answers : goal.returns-in-Deadlock-clause-answers
-returns-in-Deadlock-clause-answers c =
+pub returns-in-Deadlock : goal.returns-in-Deadlock
+returns-in-Deadlock c =
     let s = c.args.table.now.table in
     let u = c.lock_number.new.table.table in
     let h = c.in-Deadlock.holder in
     let may = asks_both s c.args.key (ap (λ (t : TableState). may_ask t c.args.key) (sym c.table.ensures) ∙ sym c.in_ok-may_ask.ensures) (ap may_count (sym c.table-2.ensures) ∙ sym c.in_ok-may_count.ensures) in
     let locks : Locks s c.args.key c.args.number (Ok (locked.Deadlock h)) u = rw c.in-Deadlock.is at c.lock_number.ensures.locks in
     let label = label_is_left s c.table-3.result.now c.args.key c.args.number c.in_ok-is_held.field-0 c.table-3.ensures c.if-branch.false c.in_ok-is_held.ensures.held c.in_ok-is_held.ensures.label in
-    (may, (label h (queued_is s u c.args.key h c.args.number locks.0).held, locks))
+    (may, (label h locks.owner, locks))

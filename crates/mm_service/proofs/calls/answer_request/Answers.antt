@@ -2,7 +2,7 @@ use Rattle.std.proofs.Common.{subst, refl, List, ℕ, ◌++◌, append_assoc, ru
 use Rattle.mm_lines.specs.Output.{Writes}
 use Rattle.mm_lines.proofs.Lemmas.Output.{writes_added, writes_reply}
 use Rattle.mm_service.specs.declared.effect.Effect.{Effect}
-use Rattle.mm_service.specs.Text.{Replies, effect_text}
+use Rattle.mm_service.specs.Text.{effect_text}
 use Rattle.mm_service.proofs.calls.answer_request.Goals as goal
 
 pub returns-in-Ok-clause-answered : goal.returns-in-Ok-clause-answered

@@ -8,9 +8,9 @@ use Rattle.mm_service.proofs.calls.make.Goals as goal
 
 pub returns-in-OfName-clause-replies : goal.returns-in-OfName-clause-replies
 returns-in-OfName-clause-replies g c =
-    let did = c.reply_of_name.ensures in
-    let R = λ (r : Request). Replies r c.args.asked.name.now c.args.manager.now did.0 c.reply_of_name.result c.reply_of_name.new.manager in
-    (did.0, c.reply_of_name.result, c.reply_of_name.new.output.items, subst R (sym c.in-OfName.is) did.1, writes_printed _ c.args.output.now.items did.0 c.reply_of_name.new.output.items did.2, (refl, refl))
+    let did = c.write_of_name.ensures.replies in
+    let R = λ (r : Request). Replies r c.args.asked.name.now c.args.manager.now did.0 did.1 c.write_of_name.new.manager in
+    (did.0, did.1, did.2, subst R (sym c.in-OfName.is) did.3, did.4, did.5)
 
 pub returns-in-OfKey-clause-replies : goal.returns-in-OfKey-clause-replies
 returns-in-OfKey-clause-replies g c =
@@ -22,10 +22,10 @@ pub returns-in_err-write_holds-in-Holds-clause-replies : goal.returns-in_err-wri
 returns-in_err-write_holds-in-Holds-clause-replies g c =
     let did = c.in_err-write_holds-in-Holds.ensures.written in
     let R = λ (r : Request). Replies r c.args.asked.name.now c.args.manager.now did.0 Nothing c.args.manager.now in
-    (did.0, Nothing, did.1, subst R (sym c.in-Holds.is) (did.2, refl, refl), did.3, MatchResult-from_err _ _ _ c.from_residual.ensures.0 (λ _. refl))
+    (did.0, Nothing, did.1, subst R (sym c.in-Holds.is) (did.2, refl, refl), did.3, MatchResult-from_err _ _ _ c.from_residual.ensures.0 (λ _. tt))
 
 pub returns-in_err-write_graph-in-Graph-clause-replies : goal.returns-in_err-write_graph-in-Graph-clause-replies
 returns-in_err-write_graph-in-Graph-clause-replies g c =
     let did = c.in_err-write_graph-in-Graph.ensures.written in
     let R = λ (r : Request). Replies r c.args.asked.name.now c.args.manager.now (graph_text c.args.manager.now) Nothing c.args.manager.now in
-    (graph_text c.args.manager.now, Nothing, did.0, subst R (sym c.in-Graph.is) (refl, refl, refl), did.1, MatchResult-from_err _ _ _ c.from_residual-in_err-write_graph-in-Graph.ensures.0 (λ _. refl))
+    (graph_text c.args.manager.now, Nothing, did.0, subst R (sym c.in-Graph.is) (refl, refl, refl), did.1, MatchResult-from_err _ _ _ c.from_residual-in_err-write_graph-in-Graph.ensures.0 (λ _. tt))

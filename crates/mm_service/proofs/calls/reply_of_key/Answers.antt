@@ -10,25 +10,25 @@ pub returns-in-Commit : goal.returns-in-Commit
 returns-in-Commit c =
     let answer = c.commit-answer.result in
     let text = line_text (answer_text committed_text answer) in
-    let Answer = λ (r : KeyRequest). RepliesKey r c.args.key c.args.manager.now text c.commit_effect.result c.commit-answer.new.self in
+    let Answer = λ (r : KeyRequest). RepliesKey r c.args.key c.args.manager.now text c.end_effect.result c.commit-answer.new.self in
     let made : Committed c.args.manager.now c.args.key answer c.commit-answer.new.self = record { commits = c.commit-answer.ensures.commits; totals = c.commit-answer.ensures.totals } in
-    (text, subst Answer (sym c.in-Commit.is) (answer, made, refl, c.commit_effect.ensures), c.print_committed.ensures.added)
+    (text, subst Answer (sym c.in-Commit.is) (answer, made, refl, c.end_effect.ensures), c.print_committed.ensures.added)
 
 pub returns-in-Abort : goal.returns-in-Abort
 returns-in-Abort c =
     let answer = c.abort-answer.result in
     let text = line_text (answer_text abort_text answer) in
-    let Answer = λ (r : KeyRequest). RepliesKey r c.args.key c.args.manager.now text c.abort_effect.result c.abort-answer.new.self in
+    let Answer = λ (r : KeyRequest). RepliesKey r c.args.key c.args.manager.now text c.end_effect-in-Abort.result c.abort-answer.new.self in
     let made : Aborted c.args.manager.now c.args.key answer c.abort-answer.new.self = record { aborts = c.abort-answer.ensures.aborts; totals = c.abort-answer.ensures.totals } in
-    (text, subst Answer (sym c.in-Abort.is) (answer, made, refl, c.abort_effect.ensures), c.print_abort.ensures.added)
+    (text, subst Answer (sym c.in-Abort.is) (answer, made, refl, c.end_effect-in-Abort.ensures), c.print_abort.ensures.added)
 
 pub returns-in-Cancel : goal.returns-in-Cancel
 returns-in-Cancel c =
-    let answer = c.cancel-answer.result in
+    let answer = c.cancel.result in
     let text = line_text (answer_text cancel_text answer) in
-    let Answer = λ (r : KeyRequest). RepliesKey r c.args.key c.args.manager.now text c.cancel_effect.result c.cancel-answer.new.self in
-    let made : Cancelled c.args.manager.now c.args.key answer c.cancel-answer.new.self = record { cancels = c.cancel-answer.ensures.cancels; totals = c.cancel-answer.ensures.totals } in
-    (text, subst Answer (sym c.in-Cancel.is) (answer, made, refl, c.cancel_effect.ensures), c.print_cancel.ensures.added)
+    let Answer = λ (r : KeyRequest). RepliesKey r c.args.key c.args.manager.now text Nothing c.cancel.new.self in
+    let made : Cancelled c.args.manager.now c.args.key answer c.cancel.new.self = record { cancels = c.cancel.ensures.cancels; totals = c.cancel.ensures.totals } in
+    (text, subst Answer (sym c.in-Cancel.is) (answer, made, refl, refl), c.print_cancel.ensures.added)
 
 pub returns-in-Status : goal.returns-in-Status
 returns-in-Status c =

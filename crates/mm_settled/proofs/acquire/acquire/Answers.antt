@@ -1,12 +1,12 @@
 use Rattle.std.proofs.Common.{◌≡◌, ◌+◌, Ok, Err, true, inl, inr, refl, sym, ap, subst, ◌∙◌, arith}
 use Rattle.mm_rules.specs.declared.reply.Acquired.TheVariants.{Granted, Waits}
 use Rattle.mm_rules.specs.TableState.{TableState}
-use Rattle.mm_rules.specs.Event.{Acquire, Settle, Step}
+use Rattle.mm_rules.specs.Event.{Acquire, Step}
 use Rattle.mm_rules.specs.Laws.{AtRest}
 use Rattle.mm_rules.proofs.States.Config.{event_config}
 use Rattle.mm_rules.proofs.States.Counts.{event_counts}
-use Rattle.mm_settled.specs.Calls.{has_room, Locks}
-use Rattle.mm_settled.proofs.Lemmas.Lock.{waiter_rests, waiter_alone, waiter_locks, waiter_grants, waiter_counts, waits_with_room, lacks_room_both}
+use Rattle.mm_settled.specs.Calls.{has_room}
+use Rattle.mm_settled.proofs.Lemmas.Lock.{IsTold, is_told, may_take_back, waits_with_room, lacks_room_both}
 use Rattle.mm_settled.proofs.Lemmas.Quiet.{GrantsNow, granted_quiet, quiet_rests, same_is_quiet}
 use Rattle.mm_settled.proofs.Lemmas.Refused.{acquire_refused}
 use Rattle.mm_settled.proofs.Lemmas.Rest.{room_left}
@@ -34,8 +34,8 @@ pub returns-in-Err-clause-locks : goal.returns-in-Err-clause-locks
 returns-in-Err-clause-locks c =
     (same c, inl (subst (λ (t : TableState). Step (Acquire c.args.key c.args.resource) c.args.table.now (Err c.in-Err.refusal) t) (same c) (is_refused c)))
 
-pub returns-in-Err-clause-others : goal.returns-in-Err-clause-others
-returns-in-Err-clause-others c = λ v apart. (same_is_quiet c.args.table.now c.acquire.new.self c.keeps_laws.ensures (same c)).verdicts v
+pub returns-in-Err-clause-none : goal.returns-in-Err-clause-none
+returns-in-Err-clause-none c = λ v. (same_is_quiet c.args.table.now c.acquire.new.self c.keeps_laws.ensures (same c)).verdicts v ∙ c.requires.none v
 
 pub returns-in-Err-clause-nothing : goal.returns-in-Err-clause-nothing
 returns-in-Err-clause-nothing c = record { none = (same_is_quiet c.args.table.now c.acquire.new.self c.keeps_laws.ensures (same c)).granted; silent = inr (same c, c.clear-in-Err.ensures.items) }
@@ -57,8 +57,8 @@ grants c = granted_quiet c.args.table.now c.acquire.new.self c.args.key c.args.r
 pub returns-in-Ok-Granted-clause-locks : goal.returns-in-Ok-Granted-clause-locks
 returns-in-Ok-Granted-clause-locks c = is_granted c
 
-pub returns-in-Ok-Granted-clause-others : goal.returns-in-Ok-Granted-clause-others
-returns-in-Ok-Granted-clause-others c = λ v apart. (grants c).quiet.verdicts v
+pub returns-in-Ok-Granted-clause-none : goal.returns-in-Ok-Granted-clause-none
+returns-in-Ok-Granted-clause-none c = λ v. (grants c).quiet.verdicts v ∙ c.requires.none v
 
 pub returns-in-Ok-Granted-clause-nothing : goal.returns-in-Ok-Granted-clause-nothing
 returns-in-Ok-Granted-clause-nothing c =
@@ -76,8 +76,8 @@ returns-in-Ok-Granted-clause-config c = event_config (Acquire c.args.key c.args.
 
 -- ---- it waits
 
-pub settle_waiter-requires : goal.settle_waiter-requires
-settle_waiter-requires c =
+pub settle_waiter-requires-clause-room : goal.settle_waiter-requires-clause-room
+settle_waiter-requires-clause-room c =
     let s = c.args.table.now in
     let mid = c.acquire.new.self in
     let k = c.args.key in
@@ -85,41 +85,45 @@ settle_waiter-requires c =
     let h = c.in-Ok-Waits.holder in
     let l = c.in-Ok-Waits.field-0-1 in
     let asks : Step (Acquire k r) s (Ok (Waits h l)) mid = rw (c.in-Ok-Waits.is, c.in-Ok-Waits.field-0-is) at c.acquire.ensures in
-    room_left (Acquire k r) s mid (Waits h l) asks refl (waits_with_room s mid k h r l (sym c.lacks_room.ensures ∙ c.if-lacks_room.false) asks)
+    let room : has_room s ≡ true = waits_with_room s mid k h r l (sym c.lacks_room.ensures ∙ c.if-lacks_room.false) asks in
+    room_left (Acquire k r) s mid (Waits h l) asks refl room
 
-asks : (c : goal.After-settle_waiter) → Step (Acquire c.args.key c.args.resource) c.args.table.now (Ok (Waits c.in-Ok-Waits.holder c.in-Ok-Waits.field-0-1)) c.acquire.new.self
-asks c = rw (c.in-Ok-Waits.is, c.in-Ok-Waits.field-0-is) at c.acquire.ensures
+pub settle_waiter-requires-clause-closer : goal.settle_waiter-requires-clause-closer
+settle_waiter-requires-clause-closer c =
+    let s = c.args.table.now in
+    let mid = c.acquire.new.self in
+    let k = c.args.key in
+    let r = c.args.resource in
+    let h = c.in-Ok-Waits.holder in
+    let l = c.in-Ok-Waits.field-0-1 in
+    let asks : Step (Acquire k r) s (Ok (Waits h l)) mid = rw (c.in-Ok-Waits.is, c.in-Ok-Waits.field-0-is) at c.acquire.ensures in
+    let room : has_room s ≡ true = waits_with_room s mid k h r l (sym c.lacks_room.ensures ∙ c.if-lacks_room.false) asks in
+    λ t answer settle some. may_take_back s mid t k h r l answer c.keeps_laws.ensures c.requires.rest asks settle some room
 
-room : (c : goal.After-settle_waiter) → has_room c.args.table.now ≡ true
-room c =
-    waits_with_room c.args.table.now c.acquire.new.self c.args.key c.in-Ok-Waits.holder c.args.resource c.in-Ok-Waits.field-0-1 (sym c.lacks_room.ensures ∙ c.if-lacks_room.false) (asks c)
+told : (c : goal.After-settle_waiter) → IsTold c.args.table.now c.args.key c.args.resource c.settle_waiter.result c.settle_waiter.new.table
+told c =
+    let s = c.args.table.now in
+    let mid = c.acquire.new.self in
+    let k = c.args.key in
+    let r = c.args.resource in
+    let h = c.in-Ok-Waits.holder in
+    let l = c.in-Ok-Waits.field-0-1 in
+    let asks : Step (Acquire k r) s (Ok (Waits h l)) mid = rw (c.in-Ok-Waits.is, c.in-Ok-Waits.field-0-is) at c.acquire.ensures in
+    let room : has_room s ≡ true = waits_with_room s mid k h r l (sym c.lacks_room.ensures ∙ c.if-lacks_room.false) asks in
+    let settled = c.settle_waiter.ensures in
+    is_told s mid settled.0 k h r l settled.1 c.keeps_laws.ensures c.requires.rest asks settled.2 c.requires.none room c.settle_waiter.result c.settle_waiter.new.table settled.3
 
 pub returns-in-Ok-Waits-clause-locks : goal.returns-in-Ok-Waits-clause-locks
-returns-in-Ok-Waits-clause-locks c =
-    let s = c.args.table.now in
-    let settled = c.settle_waiter.ensures in
-    subst (λ told. Locks s c.args.key c.args.resource (Ok told) c.settle_waiter.new.table) (sym settled.2)
-    (waiter_locks s c.acquire.new.self c.settle_waiter.new.table c.args.key c.in-Ok-Waits.holder c.args.resource c.in-Ok-Waits.field-0-1 settled.0 c.keeps_laws.ensures c.requires.rest (asks c) settled.1 (room c))
+returns-in-Ok-Waits-clause-locks c = (told c).locks
 
-pub returns-in-Ok-Waits-clause-others : goal.returns-in-Ok-Waits-clause-others
-returns-in-Ok-Waits-clause-others c =
-    let settled = c.settle_waiter.ensures in
-    waiter_alone c.args.table.now c.acquire.new.self c.settle_waiter.new.table c.args.key c.in-Ok-Waits.holder c.args.resource c.in-Ok-Waits.field-0-1 settled.0 c.keeps_laws.ensures c.requires.rest (asks c) settled.1
+pub returns-in-Ok-Waits-clause-none : goal.returns-in-Ok-Waits-clause-none
+returns-in-Ok-Waits-clause-none c = (told c).none
 
 pub returns-in-Ok-Waits-clause-nothing : goal.returns-in-Ok-Waits-clause-nothing
-returns-in-Ok-Waits-clause-nothing c =
-    let settled = c.settle_waiter.ensures in
-    record {
-      none = waiter_grants c.args.table.now c.acquire.new.self c.settle_waiter.new.table c.args.key c.in-Ok-Waits.holder c.args.resource c.in-Ok-Waits.field-0-1 settled.0 c.keeps_laws.ensures c.requires.rest (asks c) settled.1;
-      silent = inl (waiter_counts c.args.table.now c.acquire.new.self c.settle_waiter.new.table c.args.key c.in-Ok-Waits.holder c.args.resource c.in-Ok-Waits.field-0-1 settled.0 c.keeps_laws.ensures c.requires.rest (asks c) settled.1);
-    }
+returns-in-Ok-Waits-clause-nothing c = record { none = (told c).grants; silent = inl (told c).counts }
 
 pub returns-in-Ok-Waits-clause-rest : goal.returns-in-Ok-Waits-clause-rest
-returns-in-Ok-Waits-clause-rest c =
-    let settled = c.settle_waiter.ensures in
-    waiter_rests c.args.table.now c.acquire.new.self c.settle_waiter.new.table c.args.key c.in-Ok-Waits.holder c.args.resource c.in-Ok-Waits.field-0-1 settled.0 c.keeps_laws.ensures c.requires.rest (asks c) settled.1
+returns-in-Ok-Waits-clause-rest c = (told c).rest
 
 pub returns-in-Ok-Waits-clause-config : goal.returns-in-Ok-Waits-clause-config
-returns-in-Ok-Waits-clause-config c =
-    event_config Settle c.acquire.new.self c.settle_waiter.new.table (Ok c.settle_waiter.ensures.0) c.settle_waiter.ensures.1
-    ∙ event_config (Acquire c.args.key c.args.resource) c.args.table.now c.acquire.new.self c.acquire.result c.acquire.ensures
+returns-in-Ok-Waits-clause-config c = (told c).config

@@ -1,4 +1,4 @@
-use Rattle.std.proofs.Common.{◌≡◌, ◌∙◌, ℕ, Bool, false, List, [], Result, Ok, Err, IfOk, OnOk, sym, subst, refl, arith, append-nil, codes}
+use Rattle.std.proofs.Common.{◌≡◌, ◌∙◌, ◌≤◌, length, ℕ, Bool, false, List, [], Result, Ok, Err, IfOk, OnOk, sym, subst, refl, arith, append-nil, codes}
 use Rattle.std.specs.Bool.{if◌then◌else◌}
 use Rattle.std.specs.Result.{result_and}
 use Rattle.mm_service.specs.Reply.{line_text}
@@ -8,7 +8,6 @@ use Rattle.mm_connections.specs.declared.line.Said.TheVariants as said
 use Rattle.mm_connections.specs.Line.{said_of}
 use Rattle.mm_connections.specs.Hub.{Hub, to}
 use Rattle.mm_connections.specs.Text.{AnswersSaid}
-use Rattle.mm_connections.specs.private.Names.{IsShort}
 use Rattle.mm_connections.specs.private.Served.{hub_of}
 use Rattle.mm_connections.proofs.Lemmas.Lines.{printed_both}
 use Rattle.mm_connections.proofs.Lemmas.Said.{IsFit, said_fits}
@@ -31,7 +30,7 @@ serve-outcome-requires-clause-short g c =
     let n = c.args.self.now.options.connections in
     let is = sym c.said_of-named.ensures.said ∙ c.in-Asks.is in
     let fits = subst (λ (s : Said). IsFit n s (said_of n c.args.line.now).name) is (said_fits n c.args.line.now) in
-    subst (λ (name : List ℕ). IsShort c.in-Asks.request name) (sym c.said_of-named.ensures.name) fits.1
+    subst (λ (name : List ℕ). length name ≤ 1048) (sym c.said_of-named.ensures.name) fits.1
 
 pub hang_up-outcome-requires : goal.hang_up-outcome-requires
 hang_up-outcome-requires g c =

@@ -4,7 +4,7 @@ use Rattle.mm_manager.specs.declared.refusal.Refusal.TheVariants as refusal
 use Rattle.mm_service.specs.Reply.{line_text, refusal_word}
 use Rattle.mm_service.proofs.Lemmas.Pieces.{writes_after, writes_printed}
 use Rattle.mm_connections.specs.Hub.{Hub, to}
-use Rattle.mm_connections.specs.Text.{ServesBy, effect_for, events_text}
+use Rattle.mm_connections.specs.Text.{ServesBy, events_text}
 use Rattle.mm_connections.specs.declared.permission.Permission.{Permission}
 use Rattle.mm_connections.specs.private.Served.{hub_of}
 use Rattle.mm_connections.proofs.Lemmas.Lines.{printed_both}
@@ -18,7 +18,7 @@ returns-in-Make-clause-serves g c =
     let new : Hub = hub_of c.make.new.self in
     let kept = c.args.output.now.items in
     let head = decimal n ++ codes " " in
-    let caused = events_text new (effect_for n did.1) in
+    let caused = events_text n c.args.heard.request c.args.heard.name.now new did.1 in
     let text = to n did.0 ++ caused in
     let P = λ (p : Permission). ServesBy p n c.args.heard.request c.args.heard.name.now (hub_of c.args.self.now) text new in
     let W = λ (l : List ℕ). Writes (g.W.Write.contents c.args.writer.now) (g.W.Write.contents c.make.new.writer) (kept ++ l) did.2 in

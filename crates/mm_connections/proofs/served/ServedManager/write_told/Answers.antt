@@ -15,8 +15,8 @@ loop-grant-preserved g c =
     let h : Hub = hub_of c.args.self.now in
     let but = c.args.but in
     let none : Grant = record { key = record { process = 0; generation = 0 }; resource = 0 } in
-    writes_next (told_lines but h) (λ (x : Grant). to_any (receiver but (connection_of h.begun x.key)) (told_line h.manager x)) (λ x xs. refl) _ _ _ _ c.loop-grant.output.items c.make_room.new.output.items c.print_told.new.output.items
-    c.granted-grant-items.result.now c.loop-grant.grant-index none c.loop-grant-test.true c.loop-grant.invariant c.in_ok-make_room.ensures.written c.print_told.ensures
+    writes_next (told_lines but h) (λ (x : Grant). to_any (receiver but (connection_of h.begun x.key)) (told_line h.manager x)) (λ x xs. refl) _ _ _ _ c.loop-grant.output.items c.make_room.new.output.items c.print_grant.new.output.items
+    c.granted-grant-items.result.now c.loop-grant.grant-index none c.loop-grant-test.true c.loop-grant.invariant c.in_ok-make_room.ensures.written c.print_grant.ensures
 
 pub returns-in_err-make_room-clause-written : goal.returns-in_err-make_room-clause-written
 returns-in_err-make_room-clause-written g c =

@@ -1,5 +1,4 @@
-use Rattle.std.proofs.Common.{◌≡◌, Ok, subst, arith}
-use Rattle.mm_manager.specs.Permit.{may_cancel}
+use Rattle.std.proofs.Common.{subst, arith}
 use Rattle.mm_desk.specs.Books.{BooksState}
 use Rattle.mm_desk.specs.Calls.{IsOver}
 use Rattle.mm_desk.proofs.Names.{aborts_over, held_inside, others_same}
@@ -8,7 +7,7 @@ use Rattle.mm_desk.proofs.books.Books.abort.Goals as goal
 
 pub uncount-requires : goal.uncount-requires
 uncount-requires c = record {
-  counted = c.self.invariant.counted;
+  counted = c.self.invariant;
   once = c.holds.ensures.once;
   inside = held_inside c.self.inside.manager c.keeps_laws.ensures c.args.key c.holds.new.numbers.items c.holds.ensures.owned;
 }
@@ -18,8 +17,7 @@ recount-requires c =
     let old = c.self.inside.manager in
     let new = c.abort-answer.new.self in
     let numbers = c.holds.new.numbers.items in
-    let active : may_cancel old.table c.args.key ≡ Ok tt → ⊥ = λ may. c.requires.active (subst (λ (b : BooksState). may_cancel b.manager.table c.args.key ≡ Ok tt) c.self.view_is may) in
-    let over = aborts_over old new c.args.key c.self.invariant.none_due active c.abort-answer.result c.abort-answer.ensures.aborts in
+    let over = aborts_over old new c.args.key c.abort-answer.result c.abort-answer.ensures.aborts in
     let inside = held_inside old c.keeps_laws.ensures c.args.key numbers c.holds.ensures.owned in
     record {
       mended = (c.uncount.ensures.0, cut_to_mend old.names.names new.names.names numbers c.uncount.ensures.0 c.uncount.ensures.1 over.size (others_same old c.keeps_laws.ensures c.args.key numbers c.holds.ensures.owned new over), c.uncount.ensures.2);
@@ -29,19 +27,9 @@ recount-requires c =
     }
 
 pub invariant_of-self : goal.invariant_of-self
-invariant_of-self c =
-    let old = c.self.inside.manager in
-    let new = c.abort-answer.new.self in
-    let numbers = c.holds.new.numbers.items in
-    let active : may_cancel old.table c.args.key ≡ Ok tt → ⊥ = λ may. c.requires.active (subst (λ (b : BooksState). may_cancel b.manager.table c.args.key ≡ Ok tt) c.self.view_is may) in
-    let over = aborts_over old new c.args.key c.self.invariant.none_due active c.abort-answer.result c.abort-answer.ensures.aborts in
-    record { counted = c.recount.ensures; none_due = over.due }
+invariant_of-self c = c.recount.ensures
 
 pub returns-clause-over : goal.returns-clause-over
 returns-clause-over c =
-    let old = c.self.inside.manager in
     let new = c.abort-answer.new.self in
-    let numbers = c.holds.new.numbers.items in
-    let active : may_cancel old.table c.args.key ≡ Ok tt → ⊥ = λ may. c.requires.active (subst (λ (b : BooksState). may_cancel b.manager.table c.args.key ≡ Ok tt) c.self.view_is may) in
-    let over = aborts_over old new c.args.key c.self.invariant.none_due active c.abort-answer.result c.abort-answer.ensures.aborts in
-    subst (λ (b : BooksState). IsOver b.manager c.args.key new) c.self.view_is over
+    subst (λ (b : BooksState). IsOver b.manager c.args.key new) c.self.view_is (aborts_over c.self.inside.manager new c.args.key c.abort-answer.result c.abort-answer.ensures.aborts)

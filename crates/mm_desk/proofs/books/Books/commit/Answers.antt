@@ -7,7 +7,7 @@ use Rattle.mm_desk.proofs.books.Books.commit.Goals as goal
 
 pub uncount-requires : goal.uncount-requires
 uncount-requires c = record {
-  counted = c.self.invariant.counted;
+  counted = c.self.invariant;
   once = c.holds.ensures.once;
   inside = held_inside c.self.inside.manager c.keeps_laws.ensures c.args.key c.holds.new.numbers.items c.holds.ensures.owned;
 }
@@ -17,7 +17,7 @@ recount-requires c =
     let old = c.self.inside.manager in
     let new = c.commit-answer.new.self in
     let numbers = c.holds.new.numbers.items in
-    let over = commits_over old new c.args.key c.self.invariant.none_due c.commit-answer.result c.commit-answer.ensures.commits in
+    let over = commits_over old new c.args.key c.commit-answer.result c.commit-answer.ensures.commits in
     let inside = held_inside old c.keeps_laws.ensures c.args.key numbers c.holds.ensures.owned in
     record {
       mended = (c.uncount.ensures.0, cut_to_mend old.names.names new.names.names numbers c.uncount.ensures.0 c.uncount.ensures.1 over.size (others_same old c.keeps_laws.ensures c.args.key numbers c.holds.ensures.owned new over), c.uncount.ensures.2);
@@ -27,11 +27,9 @@ recount-requires c =
     }
 
 pub invariant_of-self : goal.invariant_of-self
-invariant_of-self c =
-    let over = commits_over c.self.inside.manager c.commit-answer.new.self c.args.key c.self.invariant.none_due c.commit-answer.result c.commit-answer.ensures.commits in
-    record { counted = c.recount.ensures; none_due = over.due }
+invariant_of-self c = c.recount.ensures
 
 pub returns-clause-over : goal.returns-clause-over
 returns-clause-over c =
     let new = c.commit-answer.new.self in
-    subst (λ (b : BooksState). IsOver b.manager c.args.key new) c.self.view_is (commits_over c.self.inside.manager new c.args.key c.self.invariant.none_due c.commit-answer.result c.commit-answer.ensures.commits)
+    subst (λ (b : BooksState). IsOver b.manager c.args.key new) c.self.view_is (commits_over c.self.inside.manager new c.args.key c.commit-answer.result c.commit-answer.ensures.commits)

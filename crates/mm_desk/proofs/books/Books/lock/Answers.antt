@@ -1,5 +1,4 @@
-use Rattle.std.proofs.Common.{◌+◌, set, sym, ap, subst, ◌∙◌, arith}
-use Rattle.mm_bit_set.specs.BitSet.{has}
+use Rattle.std.proofs.Common.{◌+◌, set, sym, subst, arith}
 use Rattle.mm_names.specs.Names.{NameTable}
 use Rattle.mm_desk.specs.Books.{BooksState, AreCounted}
 use Rattle.mm_desk.specs.Calls.{GrowsBy, OwnersStay}
@@ -10,31 +9,25 @@ use Rattle.mm_desk.proofs.books.Books.lock.Goals as goal
 pub overflow_add-index_mut : goal.overflow_add-index_mut
 overflow_add-index_mut c =
     let low = c.of-bucket.ensures.low in
-    let size = c.self.invariant.counted.0 in
+    let size = c.self.invariant.0 in
     let v = count_is c.self.inside.counts.items c.of-bucket.result c.index_mut.result.now (omega arith) c.index_mut.ensures.value in
-    let few = small_count c.self.inside.manager c.keeps_laws.ensures c.self.inside.spread c.self.inside.counts.items c.of-bucket.result c.self.invariant.counted low in
+    let few = small_count c.self.inside.manager c.keeps_laws.ensures c.self.inside.spread c.self.inside.counts.items c.of-bucket.result c.self.invariant low in
     omega arith
 
 pub invariant_of-self : goal.invariant_of-self
 invariant_of-self c =
     let low = c.of-bucket.ensures.low in
-    let size = c.self.invariant.counted.0 in
+    let size = c.self.invariant.0 in
     let v = count_is c.self.inside.counts.items c.of-bucket.result c.index_mut.result.now (omega arith) c.index_mut.ensures.value in
     let is = c.is_granted.ensures.0 c.if-is_granted.true in
     let got = lock_granted c.self.inside.manager c.args.key c.args.name.now c.lock-answer.result c.lock-answer.new.self c.lock-answer.ensures.locks c.lock-answer.ensures.step is in
-    record {
-      counted = subst (λ n. AreCounted c.self.inside.spread c.lock-answer.new.self.names.names (set c.self.inside.counts.items c.of-bucket.result (n + 1))) (sym v)
-          (count_granted c.self.inside.manager c.keeps_laws.ensures c.self.inside.spread c.self.inside.counts.items c.self.invariant.counted c.args.name.now c.of-bucket.result c.of-bucket.ensures.bucket low c.lock-answer.new.self got.1.0 got.0 got.1.1);
-      none_due = λ p. ap (λ d. has d p) c.lock-answer.ensures.due ∙ c.self.invariant.none_due p;
-    }
+    subst (λ n. AreCounted c.self.inside.spread c.lock-answer.new.self.names.names (set c.self.inside.counts.items c.of-bucket.result (n + 1))) (sym v)
+    (count_granted c.self.inside.manager c.keeps_laws.ensures c.self.inside.spread c.self.inside.counts.items c.self.invariant c.args.name.now c.of-bucket.result c.of-bucket.ensures.bucket low c.lock-answer.new.self got.1.0 got.0 got.1.1)
 
 pub invariant_of-self-else-is_granted : goal.invariant_of-self-else-is_granted
 invariant_of-self-else-is_granted c =
     let same = locked_same c.self.inside.manager c.args.key c.args.name.now c.lock-answer.result c.lock-answer.new.self c.lock-answer.ensures.locks c.lock-answer.ensures.step (λ is. (let never = c.is_granted.ensures.1 is in let no = c.if-is_granted.false in absurd (grind (arith)))) in
-    record {
-      counted = subst (λ (t : NameTable). AreCounted c.self.inside.spread t.names c.self.inside.counts.items) (sym same) c.self.invariant.counted;
-      none_due = λ p. ap (λ d. has d p) c.lock-answer.ensures.due ∙ c.self.invariant.none_due p;
-    }
+    subst (λ (t : NameTable). AreCounted c.self.inside.spread t.names c.self.inside.counts.items) (sym same) c.self.invariant
 
 pub returns-then-is_granted-clause-grows : goal.returns-then-is_granted-clause-grows
 returns-then-is_granted-clause-grows c =

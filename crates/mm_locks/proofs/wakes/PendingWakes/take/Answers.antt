@@ -13,5 +13,4 @@ loop-preserved c =
     let passes : (p : ℕ) → IsToWake w u p ↔ IsToWake (w ++ n ∷ []) (slice_set u n false) p = taken n w u next.0.member in record {
       counted = rw items (omega (arith, length-append w (n ∷ []), c.loop.invariant.counted));
       same = λ p. rw items (rw next.1 ((λ is. (passes p).0 ((c.loop.invariant.same p).0 is)), λ is. (c.loop.invariant.same p).1 ((passes p).1 is)));
-      overdue = c.loop.invariant.overdue;
     }

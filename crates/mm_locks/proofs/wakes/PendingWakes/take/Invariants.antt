@@ -6,5 +6,4 @@ abbrev pub invariant-loop : goal.invariant-loop
 invariant-loop l = record {
   counted : length l.wakes.processes.items ≡ l.counter;
   same : (p : ℕ) → IsToWake [] l.fn.self.set p ↔ IsToWake l.wakes.processes.items l.self.set p;
-  overdue : l.self.overdue ≡ l.fn.self.overdue;
 }

@@ -1,9 +1,8 @@
 use Rattle.std.proofs.Common.{subst}
 use Rattle.mm_manager.specs.LockState.{LockState, IsLawful}
-use Rattle.mm_manager.specs.private.Aborts.{seen}
+use Rattle.mm_manager.specs.private.Handed.{seen}
 use Rattle.mm_rules.proofs.States.Lookups.{live_within}
 use Rattle.mm_manager.proofs.Lemmas.Requests.{one_key}
-use Rattle.mm_manager.proofs.Lemmas.Walk.{victim_returns}
 use Rattle.mm_manager.proofs.Lemmas.Told.{waits_for_owner}
 use Rattle.mm_manager.proofs.manager.LockManager.keeps_laws.Goals as goal
 
@@ -13,13 +12,12 @@ returns c =
     subst (λ (m : LockState). IsLawful m) c.self.view_is record {
       laws = c.is_at_rest.ensures.laws;
       rest = c.is_at_rest.ensures.rest;
+      none = c.is_at_rest.ensures.none;
+      apart = c.is_at_rest.ensures.apart;
       names = c.keeps_laws.ensures;
-      numbered = c.self.invariant.parts.numbered.named;
-      marks = c.self.invariant.parts.fits.due;
-      due = c.self.invariant.parts.due;
-      waited = waits_for_owner (seen i.parts i.totals) c.is_at_rest.ensures.laws;
-      slots = λ k live. live_within i.parts.named.table.table k c.is_at_rest.ensures.laws.lawful.well_formed.sizes live;
-      alone = λ j k live_j live_k same. one_key i.parts.named.table.table j k live_j live_k same;
-      returns = victim_returns i.parts.named.table.table c.is_at_rest.ensures.laws;
+      numbered = c.self.invariant.sound.numbered.named;
+      waited = waits_for_owner (seen i.named i.tells i.totals) c.is_at_rest.ensures.laws;
+      slots = λ k live. live_within i.named.table.table k c.is_at_rest.ensures.laws.lawful.well_formed.sizes live;
+      alone = λ j k live_j live_k same. one_key i.named.table.table j k live_j live_k same;
       counted = c.self.invariant.counted;
     }

@@ -1,4 +1,4 @@
-use Rattle.std.proofs.Common.{◌≡◌, ◌<◌, Some, None, Ok, refl, sym, ap, subst, ◌∙◌}
+use Rattle.std.proofs.Common.{◌≡◌, ◌<◌, Some, None, Ok, sym, ap, subst, ◌∙◌}
 use Rattle.mm_rules.specs.TableState.{TableState, owner_of}
 use Rattle.mm_names.specs.Names.{NameTable, name_of}
 use Rattle.mm_settled.specs.Calls.{Locks}
@@ -44,9 +44,6 @@ returns-in-Some-clause-numbered c = subst (λ (v : NameTable). AreNumbered c.arg
 pub returns-in-Some-clause-named : goal.returns-in-Some-clause-named
 returns-in-Some-clause-named c = c.in_ok-entry.ensures.allowed
 
-pub returns-in-Some-clause-others : goal.returns-in-Some-clause-others
-returns-in-Some-clause-others c = λ v apart. refl
-
 -- ---- nobody does
 
 pub lock_number-requires : goal.lock_number-requires
@@ -75,9 +72,6 @@ returns-clause-tried c = (c.in_ok-entry.entry.number, c.in_ok-entry.ensures.inte
 
 pub returns-clause-named : goal.returns-clause-named
 returns-clause-named c = c.in_ok-entry.ensures.allowed
-
-pub returns-clause-others : goal.returns-clause-others
-returns-clause-others c = c.lock_number.ensures.others
 
 pub returns-clause-numbered : goal.returns-clause-numbered
 returns-clause-numbered c =

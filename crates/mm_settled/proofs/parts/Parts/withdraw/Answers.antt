@@ -5,11 +5,8 @@ use Rattle.mm_rules.specs.Withdraw.{Withdraws}
 use Rattle.mm_settled.specs.private.Lists.{ComesToRest}
 use Rattle.mm_settled.proofs.Lemmas.Fits.{fits_again}
 use Rattle.mm_settled.proofs.Lemmas.Quiet.{same_is_quiet}
-use Rattle.mm_settled.proofs.Lemmas.Withdrawn.{withdraw_refused, refuses_withdrawal, withdrawal_as, withdrawal_carried, withdrawn_at_rest, withdrawn_verdicts, withdrawn_config, withdrawn_grants, made_withdrawal}
+use Rattle.mm_settled.proofs.Lemmas.Withdrawn.{withdraw_refused, refuses_withdrawal, withdrawal_as, withdrawal_carried, withdrawn_at_rest, withdrawn_verdicts, withdrawn_config, made_withdrawal}
 use Rattle.mm_settled.proofs.parts.Parts.withdraw.Goals as goal
-
-pub returns-then-not-has_room-clause-granted : goal.returns-then-not-has_room-clause-granted
-returns-then-not-has_room-clause-granted c = c.clear.ensures.items ∙ sym (same_is_quiet c.args.self.now.table c.args.self.now.table c.keeps_laws.ensures refl).granted
 
 -- ---- the table refuses
 
@@ -26,9 +23,6 @@ returns-in_err-withdraw_waking-clause-makes c =
 
 pub returns-in_err-withdraw_waking-clause-others : goal.returns-in_err-withdraw_waking-clause-others
 returns-in_err-withdraw_waking-clause-others c = (same_is_quiet c.args.self.now.table c.withdraw_waking.new.self c.keeps_laws.ensures (same c)).verdicts
-
-pub returns-in_err-withdraw_waking-clause-granted : goal.returns-in_err-withdraw_waking-clause-granted
-returns-in_err-withdraw_waking-clause-granted c = c.clear.ensures.items ∙ sym (same_is_quiet c.args.self.now.table c.withdraw_waking.new.self c.keeps_laws.ensures (same c)).granted
 
 pub returns-in_err-withdraw_waking-clause-config : goal.returns-in_err-withdraw_waking-clause-config
 returns-in_err-withdraw_waking-clause-config c = ap (λ (t : TableState). t.config) (same c)
@@ -74,12 +68,6 @@ pub returns-clause-rest : goal.returns-clause-rest
 returns-clause-rest c =
     withdrawn_at_rest c.args.key c.args.self.now.table c.withdraw_waking.new.self c.come_to_rest.new.table c.keeps_laws.ensures c.requires.rest (is_accepted c)
     c.withdraw_waking.new.wake.items c.withdraw_waking.ensures.woken (rests c)
-
-pub returns-clause-granted : goal.returns-clause-granted
-returns-clause-granted c =
-    c.clear.ensures.items
-    ∙ sym (withdrawn_grants c.args.key c.args.self.now.table c.withdraw_waking.new.self c.come_to_rest.new.table c.keeps_laws.ensures c.requires.rest (is_accepted c)
-    c.withdraw_waking.new.wake.items c.withdraw_waking.ensures.woken (rests c))
 
 pub returns-clause-fits : goal.returns-clause-fits
 returns-clause-fits c =

@@ -1,14 +1,14 @@
-use Rattle.std.proofs.Common.{◌≡◌, ◌≤◌, ◌+◌, ℕ, Ok, Err, [], if◌then◌else◌, inl, inr, refl, sym, ap, subst, arith}
+use Rattle.std.proofs.Common.{◌≡◌, ◌≤◌, ◌+◌, Ok, Err, inl, inr, refl, sym, ap, subst, ◌∙◌, arith}
 use Rattle.mm_rules.specs.declared.config.Config.{Config}
 use Rattle.mm_rules.specs.Event.{Begin, Step}
 use Rattle.mm_rules.specs.Laws.{AtRest}
-use Rattle.mm_rules.specs.TableState.{TableState, has_verdict}
+use Rattle.mm_rules.specs.TakeBack.{HasNoVictim}
+use Rattle.mm_rules.specs.TableState.{TableState}
 use Rattle.mm_rules.proofs.States.Config.{event_config}
 use Rattle.mm_rules.proofs.States.Counts.{event_counts}
-use Rattle.mm_settled.specs.Grants.{Tells}
 use Rattle.mm_settled.specs.SettledState.{SettledState}
 use Rattle.mm_settled.specs.private.Lists.{Fits}
-use Rattle.mm_settled.specs.private.Told.{GrantsNothing, is_told}
+use Rattle.mm_settled.specs.private.Told.{GrantsNothing}
 use Rattle.mm_settled.proofs.Lemmas.Fits.{fits_again}
 use Rattle.mm_settled.proofs.Lemmas.Quiet.{begin_quiet, quiet_rests, same_is_quiet}
 use Rattle.mm_settled.proofs.Lemmas.Refused.{begin_refused}
@@ -33,6 +33,7 @@ invariant_of-self c =
     let quiet = begin_quiet s c.begin.new.self c.begin.result c.keeps_laws.ensures c.begin.ensures in
     record {
       rest = quiet_rests Begin s c.begin.new.self c.begin.result c.begin.ensures c.keeps_laws.ensures c.self.invariant.rest quiet;
+      none = λ v. quiet.verdicts v ∙ c.self.invariant.none v;
       fits = subst (λ (f : Config). Fits f c.self.inside.parts.lists) (sym (event_config Begin s c.begin.new.self c.begin.result c.begin.ensures)) c.self.invariant.fits;
       told_at = stamped_before c.self.inside.told_at s c.begin.new.self c.self.inside.parts.lists.granted.items c.self.invariant.told_at (nothing c);
     }
@@ -40,18 +41,9 @@ invariant_of-self c =
 pub returns-in-Ok-clause-step : goal.returns-in-Ok-clause-step
 returns-in-Ok-clause-step c = subst (λ (old : SettledState). Step Begin old.table (Ok c.in-Ok.key) c.begin.new.self) c.self.view_is (is_accepted c)
 
-pub returns-in-Ok-clause-others : goal.returns-in-Ok-clause-others
-returns-in-Ok-clause-others c =
-    let quiet = begin_quiet c.self.inside.parts.table c.begin.new.self c.begin.result c.keeps_laws.ensures c.begin.ensures in
-    subst (λ (old : SettledState). (v : ℕ) → has_verdict c.begin.new.self v ≡ has_verdict old.table v) c.self.view_is (λ v. quiet.verdicts v)
-
 pub returns-in-Ok-clause-told : goal.returns-in-Ok-clause-told
 returns-in-Ok-clause-told c =
-    let t = c.begin.new.self in
-    let at = c.self.inside.told_at in
-    let granted = c.self.inside.parts.lists.granted.items in
-    subst (λ (old : SettledState). Tells old.table record { table = t; granted = if is_told at t then granted else []; ended = c.self.inside.parts.lists.owned.items }) c.self.view_is
-    record { granted = tells_nothing at c.self.inside.parts.table t granted c.self.invariant.told_at (nothing c) }
+    tells_nothing c.self.inside.told_at c.self.inside.parts.table c.begin.new.self c.self.inside.parts.lists.granted.items c.self.invariant.told_at (nothing c) ∙ (nothing c).none
 
 -- ---- it is refused
 
@@ -68,6 +60,7 @@ invariant_of-self-in-Err c =
     let config = ap (λ (u : TableState). u.config) (same c) in
     record {
       rest = subst (λ (u : TableState). AtRest u) (sym (same c)) c.self.invariant.rest;
+      none = subst (λ (u : TableState). HasNoVictim u) (sym (same c)) c.self.invariant.none;
       fits = fits_again s.config t.config c.self.inside.parts.lists (record c.self.inside.parts.lists { granted = c.clear.new.self }) config c.self.invariant.fits
           record { granted = c.clear.ensures.capacity; woken = refl; owned = refl; resources = refl };
       told_at = subst (λ (u : TableState). c.self.inside.told_at ≤ u.totals.accepted) (sym (same c)) c.self.invariant.told_at;
@@ -76,17 +69,9 @@ invariant_of-self-in-Err c =
 pub returns-in-Err-clause-step : goal.returns-in-Err-clause-step
 returns-in-Err-clause-step c = subst (λ (old : SettledState). Step Begin old.table (Err c.in-Err.refusal) c.begin.new.self) c.self.view_is (is_refused c)
 
-pub returns-in-Err-clause-others : goal.returns-in-Err-clause-others
-returns-in-Err-clause-others c =
-    let quiet = same_is_quiet c.self.inside.parts.table c.begin.new.self c.keeps_laws.ensures (same c) in
-    subst (λ (old : SettledState). (v : ℕ) → has_verdict c.begin.new.self v ≡ has_verdict old.table v) c.self.view_is (λ v. quiet.verdicts v)
-
 pub returns-in-Err-clause-told : goal.returns-in-Err-clause-told
 returns-in-Err-clause-told c =
     let s = c.self.inside.parts.table in
-    let t = c.begin.new.self in
-    let at = c.self.inside.told_at in
     let granted = c.clear.new.self.items in
-    let nothing : GrantsNothing s t granted = record { none = (same_is_quiet s t c.keeps_laws.ensures (same c)).granted; silent = inr (same c, c.clear.ensures.items) } in
-    subst (λ (old : SettledState). Tells old.table record { table = t; granted = if is_told at t then granted else []; ended = c.self.inside.parts.lists.owned.items }) c.self.view_is
-    record { granted = tells_nothing at s t granted c.self.invariant.told_at nothing }
+    let nothing : GrantsNothing s c.begin.new.self granted = record { none = (same_is_quiet s c.begin.new.self c.keeps_laws.ensures (same c)).granted; silent = inr (same c, c.clear.ensures.items) } in
+    tells_nothing c.self.inside.told_at s c.begin.new.self granted c.self.invariant.told_at nothing ∙ nothing.none

@@ -1,14 +1,11 @@
-use Rattle.std.proofs.Common.{◌≡◌, ◌+◌, Ok, [], if◌then◌else◌, inl, sym, subst, arith}
+use Rattle.std.proofs.Common.{◌≡◌, ◌+◌, Ok, inl, sym, subst, ◌∙◌, arith}
 use Rattle.mm_rules.specs.declared.config.Config.{Config}
 use Rattle.mm_rules.specs.declared.reply.Acquired.TheVariants.{Granted}
-use Rattle.mm_rules.specs.TableState.{has_verdict}
 use Rattle.mm_rules.specs.Event.{Acquire}
 use Rattle.mm_rules.proofs.States.Config.{event_config}
 use Rattle.mm_rules.proofs.States.Counts.{event_counts}
-use Rattle.mm_settled.specs.Grants.{Tells}
-use Rattle.mm_settled.specs.SettledState.{SettledState}
 use Rattle.mm_settled.specs.private.Lists.{Fits}
-use Rattle.mm_settled.specs.private.Told.{GrantsNothing, is_told}
+use Rattle.mm_settled.specs.private.Told.{GrantsNothing}
 use Rattle.mm_settled.proofs.Lemmas.Quiet.{GrantsNow, granted_quiet, quiet_rests}
 use Rattle.mm_settled.proofs.Lemmas.Told.{tells_nothing, stamped_before}
 use Rattle.mm_settled.proofs.settled.SettledTable.grant_free.Goals as goal
@@ -23,17 +20,9 @@ nothing c =
     let counted : t.totals.accepted ≡ s.totals.accepted + 1 = (event_counts (Acquire c.args.key c.args.resource) s t (Ok Granted) c.grant_free.ensures).0 in
     record { none = (grants c).quiet.granted; silent = inl (omega (arith, counted)) }
 
-pub returns-clause-others : goal.returns-clause-others
-returns-clause-others c =
-    λ v apart. subst (λ (old : SettledState). has_verdict c.grant_free.new.self v ≡ has_verdict old.table v) c.self.view_is ((grants c).quiet.verdicts v)
-
 pub returns-clause-told : goal.returns-clause-told
 returns-clause-told c =
-    let t = c.grant_free.new.self in
-    let at = c.self.inside.told_at in
-    let granted = c.self.inside.parts.lists.granted.items in
-    subst (λ (old : SettledState). Tells old.table record { table = t; granted = if is_told at t then granted else []; ended = c.self.inside.parts.lists.owned.items }) c.self.view_is
-    record { granted = tells_nothing at c.self.inside.parts.table t granted c.self.invariant.told_at (nothing c) }
+    tells_nothing c.self.inside.told_at c.self.inside.parts.table c.grant_free.new.self c.self.inside.parts.lists.granted.items c.self.invariant.told_at (nothing c) ∙ (nothing c).none
 
 pub invariant_of-self : goal.invariant_of-self
 invariant_of-self c =
@@ -42,6 +31,7 @@ invariant_of-self c =
     let now = event_config (Acquire c.args.key c.args.resource) s t (Ok Granted) c.grant_free.ensures in
     record {
       rest = quiet_rests (Acquire c.args.key c.args.resource) s t (Ok Granted) c.grant_free.ensures c.keeps_laws.ensures c.self.invariant.rest (grants c).quiet;
+      none = λ v. (grants c).quiet.verdicts v ∙ c.self.invariant.none v;
       fits = subst (λ (f : Config). Fits f c.self.inside.parts.lists) (sym now) c.self.invariant.fits;
       told_at = stamped_before c.self.inside.told_at s t c.self.inside.parts.lists.granted.items c.self.invariant.told_at (nothing c);
     }

@@ -23,5 +23,5 @@ returns-clause-hands c =
     let numbers = c.list_owned.new.room.numbers.items in
     let many : 256 < length numbers = subst (λ (xs : List ℕ). 256 < length xs) c.numbers.ensures c.if-numbers-le-PORTION.false in
     let all : c.loop-k.k ≡ 256 = omega (arith, c.loop-k-test.false, c.loop-k.auto.k-end) in
-    portion c.args.self.now.desk c.args.at c.args.self.now.room.numbers.cap numbers c.loop-k.self.desk c.list_owned.ensures.listed many c.if-is_victim.ensures
+    portion c.args.self.now.desk c.args.at c.args.self.now.room.numbers.cap numbers c.loop-k.self.desk c.list_owned.ensures.listed many
     (subst (λ (n : ℕ). HandsEachOver c.args.self.now.desk c.args.at (take n numbers) c.loop-k.self.desk) all c.loop-k.invariant.over)

@@ -1,4 +1,0 @@
-use Rattle.mm_connections.proofs.cycle.Walk.+write_pairs.Given as goal
-
-abbrev pub decreases-write_pairs : goal.decreases-write_pairs
-decreases-write_pairs g l = l.self.left
