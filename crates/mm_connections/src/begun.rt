@@ -31,6 +31,7 @@ impl Model for Begun {
     ghost invariant = { λ b. (b.lists_len ≡ length b.lists.lists) × (b.processes ≡ length b.lists.spots) × ListsMatchSpots b.lists };
 }
 
+// The first statement of most methods reads a field of its own, by which the prover knows the invariant there.
 impl Begun {
     /// The lists of each connection have the processes of which it is kept, each once.
     pub fn keeps_laws(&self)

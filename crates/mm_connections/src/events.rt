@@ -18,6 +18,9 @@ use mm_service::reply::{MAX_REPLY, end_line};
 use mm_service::{Effect, MAX_PAIRS, MAX_REQUEST, Walk, print_pair, print_told, write_cycle};
 use std::io::Write;
 
+/// How many bytes `* deadlock` has, with which the operator's line of a deadlock begins.
+const DEADLOCK_LEN: usize = 10;
+
 impl ServedManager {
     ghost use Rattle.mm_connections.specs.private.Served.{hub_of};
 
@@ -103,7 +106,7 @@ impl ServedManager {
             × OnOk result (lost ≡ output.new.items) }
         ensures fault { IsOkUnless result Fault.Write }
     {
-        make_room(output, MAX_ANSWER + 10, writer)?;
+        make_room(output, MAX_ANSWER + DEADLOCK_LEN, writer)?;
         print_to(output, OPERATOR);
         print_text(output, b"* deadlock");
         print_pair(output, key, name);

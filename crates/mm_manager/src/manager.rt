@@ -121,10 +121,10 @@ impl LockManager {
     ///   keeps what it owns, and decides what to give back. But for labels and counts all is as it was. Whoever asks again before one of those on
     ///   that way has given something back is told so again.
     ///
-    /// Refused as `NoTransaction`, `Waiting`, `CountsFull`, `NameEmpty`, `NameTooLong`, `NamesFull` or `LabelsFull`, which are tested in this
-    /// order: as `CountsFull` if `begin` is, as `NamesFull` if nobody owns the name and all numbers are taken, and as `LabelsFull` if another
-    /// transaction owns it, and half as many events were counted as labels can be high, 8,796,093,022,207, or more. `O(length)` if nobody else
-    /// owns it; a wait and a deadlock cost the settle that follows.
+    /// Nobody else's owners or waits change. Refused as `NoTransaction`, `Waiting`, `CountsFull`, `NameEmpty`, `NameTooLong`, `NamesFull` or
+    /// `LabelsFull`, which are tested in this order: as `CountsFull` if `begin` is, as `NamesFull` if nobody owns the name and all numbers are
+    /// taken, and as `LabelsFull` if another transaction owns it, and half as many events were counted as labels can be high, 8,796,093,022,207,
+    /// or more. `O(length)` if nobody else owns it; a wait and a deadlock cost the settle that follows.
     // In place: it is one call itself, of `NamedTable::lock`.
     #[inline(always)]
     pub fn lock(&mut self, key: Key, name: &[u8]) -> Result<Lock, Refusal>
@@ -358,7 +358,7 @@ impl LockManager {
         permit::counts_left(self.named.table.table())
     }
 
-    /// Returns how many events can be counted before a `lock` that would wait is refused as `LabelsFull`. Constant time.
+    /// Returns how many events can be counted before a `lock` of what another transaction owns is refused as `LabelsFull`. Constant time.
     pub fn labels_left(&self) -> u64
         ensures { result ≡ labels_left self.now.table }
     {
