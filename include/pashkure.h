@@ -66,8 +66,8 @@ typedef enum pashkure_result {
     PASHKURE_NOT_OWNER = 22,         /* it does not own the name */
     PASHKURE_TRANSACTIONS_FULL = 23, /* config.transactions are live. Ends make room */
     PASHKURE_NAMES_FULL = 24,        /* config.names are owned, and this is a further one. Ends make room; PASHKURE_WAITS is never refused so */
-    PASHKURE_LABELS_FULL = 25,       /* 8,796,093,022,207 events: nobody may begin to wait any more. End all, close, open */
-    PASHKURE_COUNTS_FULL = 26,       /* 4,611,686,018,426,339,328 events: only ends are taken. End all, close, open */
+    PASHKURE_LABELS_FULL = 25,       /* 8,796,093,022,207 answers WAITS or DEADLOCK: nobody may ask for what another one owns. End all, close, open */
+    PASHKURE_COUNTS_FULL = 26,       /* 4,611,686,018,360,279,040 events: only ends are taken. End all, close, open */
     PASHKURE_NOT_OPEN = 32,          /* the manager is closed */
     PASHKURE_IN_USE = 33,            /* pashkure_open of an open one; pashkure_locks_close while a transaction is live */
     PASHKURE_BAD_VERSION = 34,       /* the library does not serve config.header, or it is 0: the config did not begin as PASHKURE_CONFIG */
@@ -98,7 +98,7 @@ typedef struct pashkure_key {
 typedef struct pashkure_config {
     uint32_t header;       /* PASHKURE_VERSION, by PASHKURE_CONFIG: how the library knows what you were compiled with */
     uint32_t transactions; /* how many can be live at a time: 1 to 65,536. Each slot serves 4,294,967,295, then begin stays full */
-    uint32_t names;        /* how many can be owned at a time: 1 to 65,536; a later version may take more */
+    uint32_t names;        /* how many can be owned at a time: 1 to 16,777,216 */
     uint32_t name_bytes;   /* how many bytes a name may have: 1 to 1,024. Any bytes; a name of numbers is as good as text */
     uint64_t seed;         /* of the hash of names: any number that those who choose names do not know, as of getrandom */
     uint32_t buckets;      /* of pashkure_locks_open; else 0 */
@@ -134,8 +134,8 @@ typedef struct pashkure_seen {
 /* What was counted since the opening. Live now: begun - committed - aborted. */
 typedef struct pashkure_counts {
     uint64_t begun, committed, aborted, deadlocks;
-    uint64_t waits, withdrawn; /* requests answered PASHKURE_WAITS; waits that were cancelled */
-    uint64_t events;           /* by which PASHKURE_LABELS_FULL and PASHKURE_COUNTS_FULL go */
+    uint64_t waits, withdrawn; /* requests answered PASHKURE_WAITS; waits that were cancelled. By waits + deadlocks PASHKURE_LABELS_FULL goes */
+    uint64_t events;           /* by which PASHKURE_COUNTS_FULL goes */
     uint64_t reserved;
 } pashkure_counts;
 

@@ -5,7 +5,7 @@
  * hands what was thin to its manager, where transactions wait.
  *
  *   WHAT THE CALLER OWES. One thread at a time is in a call of a worker, and one in a call of a desk: by a mutex. A call of a desk that is given a
- *   worker is a call of both. Worker and desk are of one opening. While its transaction waits a worker takes nothing. Rules 2 to 4 of pashkure.h.
+ *   worker is a call of both. Worker and desk are of one opening. Rules 2 to 4 of pashkure.h.
  *
  * Each worker has a transaction of the desk's manager, which is begun at the opening. The workers are numbered from 0 in the order in which they
  * are added; `at` is such a number. Results are those of pashkure.h and those below. Each call but the closing ones and free_all answers NOT_OPEN
@@ -17,7 +17,7 @@
 
 #define PASHKURE_AGAIN ((pashkure_result)12)      /* another thread changed a word meanwhile, or the bucket is the desk's */
 #define PASHKURE_FAT ((pashkure_result)13)        /* the bucket is the desk's: ask there */
-#define PASHKURE_FULL ((pashkure_result)14)       /* the eight records of the worker are taken: ask the desk */
+#define PASHKURE_FULL ((pashkure_result)14)       /* the sixteen records of the worker are taken: ask the desk */
 #define PASHKURE_NOT_THIN ((pashkure_result)15)   /* the name has no bytes, or more than 63 or than config.name_bytes: ask the desk */
 #define PASHKURE_NOT_LET_GO ((pashkure_result)27) /* a bucket is still lent to a worker of this number: worker and desk are of two openings */
 
@@ -41,7 +41,7 @@ typedef struct pashkure_worker {
 /* ---- Opening and closing ---- */
 
 /* OK, or IN_USE, BAD_.. as of pashkure_open, BAD_BUCKETS, NO_MEMORY. It takes all the memory of the desk: that of pashkure_open, 16 bytes a
- * bucket, 648 a transaction and 12 a name. All buckets are free. */
+ * bucket, 1,160 a transaction and 12 a name. All buckets are free. */
 pashkure_result pashkure_desk_open(pashkure_desk *desk, const pashkure_config *config, uint32_t buckets);
 
 /* Gives the memory of the desk back. The words stay until the last worker is closed. */
@@ -66,10 +66,10 @@ pashkure_result pashkure_worker_give_back_all(pashkure_worker *worker);
 
 /* ---- Requests, with the mutex ---- */
 
-/* Makes fat all that the worker has taken, and the name's bucket. Then as pashkure_lock: OK, HELD, WAITS, DEADLOCK. AGAIN: ask again. */
+/* Makes the name's bucket fat. Then as pashkure_lock: OK, HELD, WAITS, DEADLOCK. AGAIN: ask again. */
 pashkure_result pashkure_desk_ask(pashkure_desk *desk, pashkure_worker *worker, const void *name, size_t length);
 
-/* Makes the name's bucket fat. Then as pashkure_try_lock: OK, HELD, BUSY. AGAIN: try again. */
+/* The same, as pashkure_try_lock: OK, HELD, BUSY. */
 pashkure_result pashkure_desk_try_lock(pashkure_desk *desk, pashkure_worker *worker, const void *name, size_t length);
 
 /* ---- Ends, with the mutex. After OK read pashkure_desk_woken, before any other call that is no reading one ---- */

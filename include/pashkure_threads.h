@@ -12,10 +12,11 @@
  *   not cancelled in a call. A signal ends no sleep. What a transaction wrote before it gave a name back is seen by the one that owns the name
  *   next (it happens before). ThreadSanitizer is told so, name by name. helgrind and DRD know nothing of it, and report what is no race.
  *
- *   MEMORY. pashkure_locks_open takes all of it: that of pashkure_open, 16 bytes a bucket, 12 a name, and some 3,600 bytes a transaction, of which
- *   1,600 are first touched by a deadlock. No other call takes any. A name of more than 63 bytes, a ninth name of a transaction, and two names of one bucket are the manager's. Of names that are
- *   not, config.buckets bounds how many can be owned at a time; of those that are, config.names. NAMES_FULL says that the manager has no room for
- *   the name that was asked for, or for one that another transaction owns and that had to come to the manager.
+ *   MEMORY. pashkure_locks_open takes all of it: that of pashkure_open, 16 bytes a bucket, 12 a name, and some 4,600 bytes a transaction, of which
+ *   1,600 are first touched by a deadlock. No other call takes any. A name of more than 63 bytes, a name of a transaction after its sixteenth, and
+ *   two names of one bucket are the manager's. Of names that are not, config.buckets bounds how many can be owned at a time; of those that are,
+ *   config.names. NAMES_FULL says that the manager has no room for the name that was asked for, or for one that another transaction owns and that
+ *   had to come to the manager.
  *
  *   DEADLOCKS. A request whose wait would close a cycle of waits is answered DEADLOCK at once, and no other one of the cycle is told. The transaction
  *   does not wait, and goes on with what it owns. Give back what others wait for: undo the work and call pashkure_locks_abort, or undo what came

@@ -40,7 +40,7 @@ static bool asks_for_clients(const char *line, size_t length)
     return length >= wanted && memcmp(line, clients, wanted) == 0 && (length == wanted || (length == wanted + 1 && line[wanted] == '\r'));
 }
 
-/* Says whether a line asks for all names of a transaction. */
+/* Says whether a line asks for the names of a transaction: the reply may have a megabyte. */
 static bool has_long_reply(const char *line, size_t length)
 {
     static const char word[] = "holds";

@@ -56,7 +56,7 @@ struct number_option {
 
 static const struct number_option numbers[] = {
     {"transactions", offsetof(struct options, transactions), 1, 65536},
-    {"names", offsetof(struct options, names), 1, 65536},
+    {"names", offsetof(struct options, names), 1, 16777216},
     {"name-bytes", offsetof(struct options, name_bytes), 1, 1024},
     {"each", offsetof(struct options, each), 1, 65536},
     {"connections", offsetof(struct options, connections), 1, 65535},

@@ -60,7 +60,6 @@ typedef enum pashkure_remote_result {
     PASHKURE_REMOTE_BAD_NAME = 67,            /* it is empty, longer than 1,024 bytes, or has a space or a control character. Nothing was sent */
     PASHKURE_REMOTE_OPERATOR = 80,            /* only the operator's socket takes the request; or it does not take it */
     PASHKURE_REMOTE_NO_EPOCH = 81,            /* the service has no epoch, and so no fences */
-    PASHKURE_REMOTE_TOO_MANY = 83,            /* it owns more names than a reply has */
     PASHKURE_REMOTE_CONNECTIONS_FULL = 84,    /* the service has as many clients as it can */
     PASHKURE_REMOTE_OTHER_PROTOCOL = 85,      /* of open: the service speaks another protocol. Restart it first, from this client's version */
     PASHKURE_REMOTE_RESULT_BITS_ = 0x7fffffff /* no result: gives the enum 32 bits with each compiler */
@@ -213,7 +212,7 @@ typedef struct pashkure_remote_service {
 typedef struct pashkure_remote_counts {
     uint64_t begun, committed, aborted, deadlocks;
     uint64_t waits, withdrawn, events;
-    uint64_t labels_left, counts_left; /* events until LABELS_FULL and COUNTS_FULL */
+    uint64_t labels_left, counts_left; /* requests that can yet wait or be told of a deadlock; events until COUNTS_FULL */
 } pashkure_remote_counts;
 
 /* Who owns the name: OK, or FREE. */
@@ -223,7 +222,8 @@ pashkure_remote_result pashkure_remote_owner(pashkure_remote_connection *connect
 pashkure_remote_result pashkure_remote_status_of(
     pashkure_remote_connection *connection, pashkure_remote_transaction transaction, pashkure_remote_status *status);
 
-/* Calls each for every name that the transaction owns, in the order of their bytes. Of more than 1,024: TOO_MANY, but for the operator. */
+/* Calls each for every name that the transaction owns, in the order of their bytes. They are read in parts of 1,024 names, each by a request of its own:
+   a name that the transaction comes to own or gives back meanwhile may be among them or not. If a later part is refused, the names before it were told. */
 pashkure_remote_result pashkure_remote_holds(
     pashkure_remote_connection *connection, pashkure_remote_transaction transaction, pashkure_remote_each_name *each, void *context);
 

@@ -6,6 +6,7 @@
 #include <string.h>
 
 #define PROTOCOL_NUMBER 2
+#define PART_NAMES 1024 /* as many names a reply to `holds` has at most. If the transaction owns more, ".." stands behind them */
 
 static const struct verb OWNER = {"owner", {{"owner", PASHKURE_REMOTE_OK, KEY}, {"free", PASHKURE_REMOTE_FREE, NO_MORE}}};
 
@@ -28,20 +29,34 @@ result pashkure_remote_status_of(connection *at, transaction of, pashkure_remote
     return remote_read_state(at, word, false, status) ? remote_done(at, PASHKURE_REMOTE_OK) : remote_read_refusal(at, word);
 }
 
+/* Reads the names of a reply to `holds`, of which the last one is left in `name`. Says whether the transaction owns more. */
+static bool reads_part(connection *at, pashkure_remote_each_name *each, void *context, char *name)
+{
+    char word[PASHKURE_REMOTE_NAME_BYTES + 1];
+    int count;
+    remote_read_any(at, word, sizeof word);
+    for (count = 0; count < PART_NAMES && word[0] != '\0' && at->is_open; count++) {
+        each(context, strcpy(name, word));
+        remote_read_any(at, word, sizeof word);
+    }
+    if (word[0] != '\0' && strcmp(word, "..") != 0)
+        remote_fail(at, PASHKURE_REMOTE_PROTOCOL);
+    return word[0] != '\0';
+}
+
 result pashkure_remote_holds(connection *at, transaction of, pashkure_remote_each_name *each, void *context)
 {
-    char name[PASHKURE_REMOTE_NAME_BYTES + 1];
+    char name[PASHKURE_REMOTE_NAME_BYTES + 1] = "";
+    bool has_more = true;
     result told = remote_sendable(at, of);
-    if (told == PASHKURE_REMOTE_OK)
-        told = remote_read_reply(at, "holds", of, NULL);
-    if (told != PASHKURE_REMOTE_OK)
-        return told;
-    remote_read_any(at, name, sizeof name);
-    while (name[0] != '\0' && at->is_open) {
-        each(context, name);
-        remote_read_any(at, name, sizeof name);
+    while (told == PASHKURE_REMOTE_OK && has_more) {
+        told = remote_read_reply(at, "holds", of, name[0] == '\0' ? NULL : name);
+        if (told != PASHKURE_REMOTE_OK)
+            return told;
+        has_more = reads_part(at, each, context, name);
+        told = remote_end_reply(at);
     }
-    return remote_end_reply(at);
+    return told;
 }
 
 result pashkure_remote_fence_of(connection *at, transaction of, const char *name, pashkure_remote_fence *fence)

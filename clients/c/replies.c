@@ -32,7 +32,6 @@ static const struct {
     {PASHKURE_REMOTE_BAD_NAME, "the name is empty, too long, or has a space or a control character", NULL},
     {PASHKURE_REMOTE_OPERATOR, "the request is for the operator's socket, or not for it", "operator"},
     {PASHKURE_REMOTE_NO_EPOCH, "the service has no epoch", "no-epoch"},
-    {PASHKURE_REMOTE_TOO_MANY, "the transaction owns more names than a reply has", "too-many"},
     {PASHKURE_REMOTE_CONNECTIONS_FULL, "the service has as many clients as it can", "connections-full"},
     {PASHKURE_REMOTE_OTHER_PROTOCOL, "the service is of another version than this client: restart the service first, from the client's version",
         NULL},

@@ -153,6 +153,8 @@ class Requests:
             words.append(self.key(kind, list(self.model.keys) if among is None else among))
         if kind in (b"lock", b"try", b"unlock", b"owner"):
             words.append(self.name(kind, words))
+        if kind == b"holds" and self.chance.random() < 0.6:
+            words.append(self.name(b"unlock" if self.chance.random() < 0.5 else kind, words))
         return self.chance.choice([b" ", b" ", b"   "]).join(words) + self.chance.choice([b"", b"", b"\r"])
 
     def key(self, kind: bytes, live: list[bytes]) -> bytes:

@@ -89,9 +89,6 @@ class Hub:
             return [self.begin_with(connection, parts)]
         if word == b"lock" and len(parts) > 2:
             return [self.lock_names(parts[0], parts[1:]) or b"granted"]
-        if word == b"holds":
-            reply = self.service.make(word, *parts)
-            return reply if connection == OPERATOR or reply[0].count(b" ") <= 1024 else [b"refused too-many"]
         own = getattr(self, word.decode(), None) if word in FURTHER else None
         return own(*parts) if own is not None else self.service.make(word, *parts)
 
@@ -137,7 +134,7 @@ class Hub:
 
     def counts(self) -> "list[bytes]":
         service, events = self.service, self.service.events
-        said = [*service.counts, service.waits, service.withdrawn, events, 2**43 - 1 - events, 2**62 - 2**20 - events]
+        said = [*service.counts, service.waits, service.withdrawn, events, 2**43 - 1 - service.counts[3] - service.waits, 2**62 - 2**26 - events]
         return [b" ".join([b"counts", *(b"%d" % number for number in said)])]
 
     # -- who is told, and hang-ups

@@ -12,10 +12,12 @@ LONGEST = 1048
 """Bytes of a line: `unlock`, a key of 16 bytes, a name of 1,024, and two spaces."""
 NUMBER = re.compile(rb"[0-9]{1,20}\Z")
 NAME = re.compile(rb"[!-~\x80-\xff]{1,1024}\Z")
+PART = 1024
+"""Names of a transaction that a reply tells. If there are more, two dots follow."""
 LONGEST_PATH = 16
 """Waits of a cycle that a line tells."""
 LIMITS = {"transactions": 65_536, "names": 65_536, "name_bytes": 64}
-GREATEST = {"transactions": 65_536, "names": 65_536, "name-bytes": 1_024, "each": 65_536, "epoch": 2**63 - 1}
+GREATEST = {"transactions": 65_536, "names": 16_777_216, "name-bytes": 1_024, "each": 65_536, "epoch": 2**63 - 1}
 """The greatest number that each option may have. The least is 1."""
 
 
@@ -49,6 +51,8 @@ def parsed(line: bytes) -> Optional[list[bytes]]:
     if not words or words[0].startswith(b"#"):
         return []
     readers = FORMS.get(words[0])
+    if words[0] == b"holds" and len(words) == 3:
+        readers = (key_of, name_of)
     if readers is None or len(readers) != len(words) - 1:
         return None
     parts = [part for part in (reader(word) for reader, word in zip(readers, words[1:])) if part is not None]
@@ -231,8 +235,9 @@ class Service:
             return b"active"
         return b"waiting %b %b" % (self.table.wait[process], self.key(self.table.holder(process)))
 
-    def holds(self, key: bytes) -> bytes:
-        return b" ".join([b"holds", *sorted(self.names[self.live(key)])])
+    def holds(self, key: bytes, after: bytes = b"") -> bytes:
+        names = sorted(name for name in self.names[self.live(key)] if name > after)
+        return b" ".join([b"holds", *names[:PART], *([b".."] if len(names) > PART else [])])
 
     def graph(self) -> bytes:
         waits = [(self.key(process), name, self.key(self.table.owner[name])) for process, name in sorted(self.table.wait.items())]

@@ -153,7 +153,8 @@ TEST(refused_open)
         {{is, 0, 0, 0, 0, 0, 1}, PASHKURE_BAD_TRANSACTIONS},
         {{is, 65537, 1, 1, 0, 0, 0}, PASHKURE_BAD_TRANSACTIONS},
         {{is, 1, 0, 0, 0, 0, 1}, PASHKURE_BAD_NAMES},
-        {{is, 1, 65537, 1, 0, 0, 0}, PASHKURE_BAD_NAMES},
+        {{is, 1, 65537, 1, 0, 0, 0}, PASHKURE_OK},
+        {{is, 1, 16777217, 1, 0, 0, 0}, PASHKURE_BAD_NAMES},
         {{is, 1, 1, 0, 0, 0, 1}, PASHKURE_BAD_NAME_BYTES},
         {{is, 1, 1, 1025, 0, 0, 0}, PASHKURE_BAD_NAME_BYTES},
         {{is, 1, 1, 1, 0, 0, 1}, PASHKURE_BAD_RESERVED},
@@ -386,6 +387,26 @@ TEST(names)
     pashkure_close(&locks);
 }
 
+/* One transaction owns all names that there can be, more than 65,536 of them. */
+TEST(many_names)
+{
+    enum { MANY = 100000 };
+    pashkure locks = opened(2, MANY);
+    pashkure_key a = begun(&locks), b = begun(&locks), owner;
+    pashkure_wake wake;
+    for (uint32_t i = 0; i < MANY; i++)
+        GIVES(pashkure_lock(&locks, a, &i, sizeof i), PASHKURE_OK);
+    uint32_t last = MANY - 1, more = MANY;
+    GIVES(pashkure_lock(&locks, a, &more, sizeof more), PASHKURE_NAMES_FULL);
+    GIVES(pashkure_lock(&locks, b, &last, sizeof last), PASHKURE_WAITS);
+    GIVES(pashkure_commit(&locks, a), PASHKURE_OK);
+    CHECK(pashkure_woken(&locks, 0, &wake) && is_same(wake.key, b) && !pashkure_woken(&locks, 1, &wake));
+    GIVES(pashkure_owner(&locks, &last, sizeof last, &owner), PASHKURE_OK);
+    CHECK(is_same(owner, b));
+    GIVES(pashkure_lock(&locks, b, &more, sizeof more), PASHKURE_OK);
+    pashkure_close(&locks);
+}
+
 TEST(moved_and_opened_again)
 {
     pashkure locks = opened(2, 2), there = locks;
@@ -435,7 +456,8 @@ TEST(memory)
 /* What an open takes is at most what the header says, and nearly that. */
 TEST(bytes_of_an_open)
 {
-    static const uint32_t SIZES[][3] = {{1, 1, 1}, {1024, 4096, 64}, {65536, 65536, 64}, {1024, 65536, 64}, {65536, 4096, 8}, {64, 1024, 1024}};
+    static const uint32_t SIZES[][3] = {
+        {1, 1, 1}, {1024, 4096, 64}, {65536, 65536, 64}, {1024, 65536, 64}, {65536, 4096, 8}, {64, 1024, 1024}, {64, 1000000, 16}};
     for (size_t i = 0; i < sizeof SIZES / sizeof *SIZES; i++) {
         pashkure locks = PASHKURE_CLOSED;
         pashkure_config config = PASHKURE_CONFIG;
@@ -470,6 +492,7 @@ static const struct test TESTS[] = {
     ROW(cancelled_wait),
     ROW(ends_of_waiters),
     ROW(names),
+    ROW(many_names),
     ROW(moved_and_opened_again),
     ROW(memory),
     ROW(bytes_of_an_open),

@@ -1,7 +1,10 @@
 """The lock service over pipes. What is wanted here was worked out by hand from docs/SERVICE.md."""
-from lib.world import Case, each
+import random
+
+from lib.world import IS_SLOW, SEED, Case, each
 
 LONG = "x" * 1024
+MANY = 1_000_000 if IS_SLOW else 80_000
 TAKEN = ["begin: begun 0.1", "begin: begun 1.1", "lock 0.1 a: granted"]
 THREE = ["begin: begun 0.1", "begin: begun 1.1", "begin: begun 2.1"]
 # 0.1 shows the label of 1.1, which waited after it did. Its wait can be taken back all the same, and 1.1 gets a new label.
@@ -43,6 +46,10 @@ ANSWERS = [
      "lock 0.1 a: granted", "lock 2.1 a: waits 0.1", "abort 2.1: aborted/* granted 3.1 z"], ""),
     ("names are listed in the order of their bytes", ["begin: begun 0.1", *(f"lock 0.1 {name}: granted" for name in ("b", "a", "ab", "B", "é")),
      "holds 0.1: holds B a ab b é", "unlock 0.1 ab: unlocked", "holds 0.1: holds B a b é", "holds 0.2: refused no-transaction"], ""),
+    ("the names after another one are listed", ["begin: begun 0.1", "begin: begun 1.1", *(f"lock 0.1 {name}: granted" for name in ("b", "..", "ab", "a", "é")),
+     "lock 1.1 aa: granted", "holds 0.1 a: holds ab b é", "holds 0.1 aa: holds ab b é", "holds 0.1 ab: holds b é", "holds 0.1 !: holds .. a ab b é",
+     "holds 0.1 -: holds .. a ab b é", "holds 0.1 ..: holds a ab b é", "holds 0.1 é: holds", f"holds 0.1 {LONG}: holds é", "holds 1.1 a: holds aa", "holds 1.1 aa: holds",
+     "holds 0.1 a b: malformed", "holds 0.1 a\x7f: malformed", f"holds 0.1 {LONG}x: malformed", "holds 2.1 a: refused no-transaction"], ""),
     ("the graph is by the keys", [*THREE, "graph: graph 0", "lock 2.1 a: granted", "lock 1.1 a: waits 2.1", "lock 0.1 b: granted",
      "lock 2.1 b: waits 0.1", "graph: graph 2/* 1.1 a 2.1/* 2.1 b 0.1", "lock 0.1 a: deadlock 2.1 b",
      "graph: graph 2/* 1.1 a 2.1/* 2.1 b 0.1"], ""),
@@ -61,7 +68,7 @@ ANSWERS = [
        "commit 0.1: committed/* granted 1.1 b", "holds 1.1: holds b"], f"--seed {seed}") for seed in (0, 1, 2**64 - 1)),
 ]  # fmt: skip
 NO_REQUESTS = ["fly", "begin now", "lock 0.1", "lock 0.1 a b", "lock a 0.1", "lock 0 a", "lock 0.1 \ta", "lock 0.1 a\x7f", "owner", "owner a b",
-               "holds", "graph 1", "totals x", "BEGIN", "lock 0.4294967296 a", "lock 4294967296.0 a", "lock +0.1 a"]  # fmt: skip
+               "holds", "holds a", "holds 0.1 a b", "holds 0.1 0.1 0.1", "graph 1", "totals x", "BEGIN", "lock 0.4294967296 a", "lock 4294967296.0 a", "lock +0.1 a"]  # fmt: skip
 
 
 class Answers(Case):
@@ -81,11 +88,46 @@ class Answers(Case):
     def test_line_of_a_million_bytes(self) -> None:
         self.ends(self.run_program("locks", given="begin\nowner " + "x" * 1_000_000 + "\nstatus 0.1\n"), 1, "begun 0.1\nmalformed\nactive\n")
 
+    def test_many_names(self) -> None:
+        """Four transactions own nine in ten of MANY names, more than a script's table has resources. They end and begin again in turns, and each asks
+        now and then for a name of another one, and takes the wait back. At last one owns all names, and a further one is refused."""
+        chance, owned = random.Random(SEED), [[0], [1], [2], [3]]
+        rows = [row for process in range(4) for row in (("begin", f"begun {process}.1"), (f"lock {process}.1 {process}", "granted"))]
+        for place in range(12):
+            process, key, new = place % 4, f"{place % 4}.{place // 4 + 1}", f"{place % 4}.{place // 4 + 2}"
+            rows += chance.choice([[(f"commit {key}", "committed")], [(f"abort {key}", "aborted")]]) + [("begin", f"begun {new}")]
+            owned[process] = [4 * number + process for number in chance.sample(range(MANY // 4), MANY * 9 // 40)]
+            for name in owned[process]:
+                rows.append((f"lock {new} {name}", "granted"))
+                if chance.random() < 0.001:
+                    other = (process + chance.randint(1, 3)) % 4
+                    holder = f"{other}.{(place - (process - other) % 4) // 4 + 2}"
+                    rows += [(f"lock {new} {chance.choice(owned[other])}", f"waits {holder}"), (f"cancel {new}", "cancelled")]
+        rows += [(f"abort {process}.4", "aborted") for process in range(4)] + [("begin", "begun 3.5")]
+        rows += [(f"lock 3.5 {name}", "granted") for name in range(MANY)] + [("lock 3.5 x", "refused names-full"), ("commit 3.5", "committed")]
+        told = self.run_program("locks", "--transactions", "4", "--names", str(MANY), given="".join(f"{request}\n" for request, _ in rows))
+        self.ends(told, 0, "".join(f"{reply}\n" for _, reply in rows))
+
     def test_long_replies(self) -> None:
         """A transaction owns 3,000 names, and 3,000 wait for it: more than the program holds of a reply."""
         names = [f"name/{number}" for number in range(10_001, 13_001)]
         requests = ["begin"] * 3001 + [f"lock 0.1 {name}" for name in names] + [f"lock {number}.1 {name}" for number, name in enumerate(names, 1)]
-        told = self.run_program("locks", given="\n".join([*requests, "holds 0.1", "graph", "commit 0.1"])).out.decode().splitlines()
+        parts = ["holds 0.1", f"holds 0.1 {names[1023]}", f"holds 0.1 {names[2047]}"]
+        told = self.run_program("locks", given="\n".join([*requests, *parts, "graph", "commit 0.1"])).out.decode().splitlines()
+        held = [" ".join(["holds", *names[:1024], ".."]), " ".join(["holds", *names[1024:2048], ".."]), " ".join(["holds", *names[2048:]])]
         waits = [f"* {number}.1 {name} 0.1" for number, name in enumerate(names, 1)]
-        self.assertEqual(told[9001:12004], [" ".join(["holds", *names]), "graph 3000", *waits, "committed"])
-        self.assertEqual(sorted(told[12004:]), sorted(f"* granted {number}.1 {name}" for number, name in enumerate(names, 1)))
+        self.assertEqual(told[9001:12006], [*held, "graph 3000", *waits, "committed"])
+        self.assertEqual(sorted(told[12006:]), sorted(f"* granted {number}.1 {name}" for number, name in enumerate(names, 1)))
+
+    def test_parts(self) -> None:
+        """Up to 1,024 names are told in one reply, in whatever order they were locked; one more is told of by two dots."""
+        for count in 1023, 1024, 1025, 2047, 2048, 2049:
+            names = [f"{number * 773 % count:05}/{'x' * (number % 40)}" for number in range(count)]
+            held, requests, wanted = sorted(names), ["begin", *(f"lock 0.1 {name}" for name in names)], []
+            for start in range(0, count, 1024):
+                requests.append("holds 0.1" if start == 0 else f"holds 0.1 {held[start - 1]}")
+                wanted.append(" ".join(["holds", *held[start : start + 1024], *([".."] if start + 1024 < count else [])]))
+            requests.append(f"holds 0.1 {held[-1025]}" if count > 1024 else "holds 0.1 00000")
+            wanted.append(" ".join(["holds", *held[-1024:]]))
+            told = self.run_program("locks", given="\n".join(requests)).out.decode().splitlines()
+            self.assertEqual(told[1 + count :], wanted)

@@ -140,10 +140,10 @@ class InTurn(MemoryCase):
     def test_storm(self, words: str, ends: int) -> None:
         self.in_turn(ends_of(ends), PROGRAM, "storm", *words.split())
 
-    @each([("--seed 7", LOCKS), ("", LOCKS), ("--connections 3 --epoch 1", CONNECTIONS)])
+    @each([("--names 8 --seed 7", LOCKS), ("--names 8", LOCKS), ("--names 100000 --seed 7", LOCKS), ("--names 8 --connections 3 --epoch 1", CONNECTIONS)])
     def test_locks(self, words: str, given: bytes) -> None:
-        """With a seed of its own, with one of the system, and of connections."""
-        command = [PROGRAM, "locks", "--transactions", "8", "--names", "8", *words.split()]
+        """With a seed of its own, with one of the system, with more names than a table of a script has resources, and of connections."""
+        command = [PROGRAM, "locks", "--transactions", "8", *words.split()]
         self.in_turn(as_ample(self.ample(*command, given=given)), *command, given=given)
 
     @each(["", "--mermaid --dot --all --at 9"])

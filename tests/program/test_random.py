@@ -7,7 +7,7 @@ from lib.world import SEED, Case, each, run
 
 LINES = 40_000
 BYTES = [bytes([byte]) for byte in range(256) if byte != 0x0A]
-FORMED = [b"status 0.1", b"holds 0.1", b"graph", b"totals", b"owner a", b"lock 0.1 a", b"try 9.9 a", b"unlock 1.1 a", b"commit 1.1", b"abort 9.9", b"cancel 0.1"]
+FORMED = [b"status 0.1", b"holds 0.1", b"holds 0.1 a", b"graph", b"totals", b"owner a", b"lock 0.1 a", b"try 9.9 a", b"unlock 1.1 a", b"commit 1.1", b"abort 9.9", b"cancel 0.1"]
 REQUESTS, CONNECTIONS = (subject for subject in search.SUBJECTS if subject.name in ("requests", "connections"))
 
 

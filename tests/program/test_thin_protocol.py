@@ -12,7 +12,7 @@ SIZES = [("2 2 1 2 2", EACH), ("2 2 2 1 2", EACH), ("2 2 2 1 1", "try,unlock"), 
 LARGER = [("2 3 2 2 3", EACH), ("2 3 2 2 1", EACH), ("3 1 1 1 1", EACH), ("3 2 2 2 2", "unlock"), ("3 2 2 1 1", "try,unlock"), ("3 3 2 2 3", "none")]
 FAULTS = {
     "2 2 1 2 2": ["name_is_read_early", "token_is_grant", "cancel_stays_in_queue", "commit_ignores_manager", "unlock_frees_all"],
-    "2 2 2 1 2": ["waiter_keeps_names", "closer_waits", "take_ignores_word", "let_go_frees", "lent_is_freed", "commit_ignores_changed", "grant_wakes_nobody"],
+    "2 2 2 1 2": ["waiter_is_passed_over", "closer_waits", "take_ignores_word", "let_go_frees", "lent_is_freed", "commit_ignores_changed", "grant_wakes_nobody"],
     "2 2 2 1 1": ["refused_stays_fat"],
 }
 

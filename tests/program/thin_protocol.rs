@@ -27,9 +27,9 @@ enum Word {
 #[derive(Clone, Copy, Debug, PartialEq, Eq, Hash)]
 enum How { Wait, WaitFor, Try }
 
-/// A request to the manager: first the buckets of the names `own` are made fat, then that of the name. And a name that was read too early.
+/// A request to the manager, before which the bucket of the name is made fat. And a name that was read too early.
 #[derive(Clone, Copy, Debug, PartialEq, Eq, Hash)]
-struct Ask { name: u8, how: How, own: u8, early: Option<u8> }
+struct Ask { name: u8, how: How, early: Option<u8> }
 
 /// What a thread does next. From `Load` on it is one that has the lock, or takes it.
 #[derive(Clone, Copy, Debug, Default, PartialEq, Eq, Hash)]
@@ -198,14 +198,8 @@ impl Search {
         } else if taken >> name & 1 == 1 {
             new.grant(t, name);
         } else {
-            (new.me(t).is_known, new.me(t).at) = (true, self.ask(taken, name, how));
+            (new.me(t).is_known, new.me(t).at) = (true, At::Load(Ask { name, how, early: None }));
         }
-    }
-
-    /// One that may wait makes all fat first that it has taken.
-    fn ask(&self, taken: u8, name: u8, how: How) -> At {
-        let own = if how == How::Try || self.has("waiter_keeps_names") { 0 } else { taken };
-        At::Load(Ask { name, how, own, early: None })
     }
 
     /// Gives a name back by its word. Whether that is done.
@@ -233,21 +227,18 @@ impl Search {
     /// A step of one that has the lock. Until it gives it back nobody else changes a word that is fat.
     fn step_inside(&self, new: &mut State, t: u8, at: At) -> Kept {
         match at {
-            At::Load(ask) => match new.words[self.target(ask)] {
+            At::Load(ask) => match new.words[self.bucket(ask.name)] {
                 word @ Word::Free => new.me(t).at = At::Fatten(ask, word),
                 word @ Word::Thin(of) => {
-                    let early = self.taken(new, of, self.target(ask)).filter(|_| self.has("name_is_read_early"));
+                    let early = self.taken(new, of, self.bucket(ask.name)).filter(|_| self.has("name_is_read_early"));
                     new.me(t).at = At::Fatten(Ask { early, ..ask }, word);
                 }
                 _ => return self.go_on(new, t, ask),
             },
-            At::Fatten(ask, word) if new.words[self.target(ask)] != word => {
-                let own = new.me(t).taken;
-                new.leave(t, self.ask(own, ask.name, ask.how));
-            }
-            At::Fatten(ask, Word::Thin(of)) => (new.words[self.target(ask)], new.me(t).at) = (Word::Reading, At::Read(ask, of)),
+            At::Fatten(ask, word) if new.words[self.bucket(ask.name)] != word => new.leave(t, At::Load(Ask { early: None, ..ask })),
+            At::Fatten(ask, Word::Thin(of)) => (new.words[self.bucket(ask.name)], new.me(t).at) = (Word::Reading, At::Read(ask, of)),
             At::Fatten(ask, _) => {
-                new.words[self.target(ask)] = Word::Fat;
+                new.words[self.bucket(ask.name)] = Word::Fat;
                 return self.go_on(new, t, ask);
             }
             At::Read(ask, of) => return self.adopt(new, t, ask, of),
@@ -265,15 +256,8 @@ impl Search {
         Ok(())
     }
 
-    /// The bucket that a request makes fat next.
-    fn target(&self, ask: Ask) -> usize { self.bucket(each(ask.own).next().unwrap_or(ask.name)) }
-
-    /// A bucket is fat: the next one's turn, or that of the request itself.
+    /// The bucket is fat: it is the request's turn.
     fn go_on(&self, new: &mut State, t: u8, ask: Ask) -> Kept {
-        if ask.own != 0 {
-            new.me(t).at = At::Load(Ask { own: ask.own & (ask.own - 1), early: None, ..ask });
-            return Ok(());
-        }
         new.leave(t, At::Ready);
         match new.owner(ask.name) {
             _ if new.waits_for(t).is_some() => return Err("one that waits asks for a name"),
@@ -295,15 +279,17 @@ impl Search {
     /// Whether the owner of the name waits, directly or over others, for this thread: then the request is refused.
     fn closes(&self, state: &State, t: u8, name: u8) -> bool { state.chain(Some(name)).contains(&t) && !self.has("closer_waits") }
 
-    /// Offers the name of a bucket that was thin to the manager, for the one that had taken it. What is refused is thin again.
+    /// Gives the name of a bucket that was thin, in the manager, to the one that had taken it, also if that one waits. What is refused is thin again.
     fn adopt(&self, new: &mut State, t: u8, ask: Ask, of: u8) -> Kept {
-        let name = ask.early.or(self.taken(new, of, self.target(ask))).ok_or("a thin bucket has no name")?;
+        let bucket = self.bucket(ask.name);
+        let name = ask.early.or(self.taken(new, of, bucket)).ok_or("a thin bucket has no name")?;
         let owner = new.owner(name).or(if self.is_full(new) { None } else { Some(of) });
-        if owner == Some(of) && new.waits_for(of).is_none() {
-            (new.words[self.target(ask)], new.owner[name as usize]) = (Word::Lent, owner);
+        if owner == Some(of) {
+            let is_passed_over = self.has("waiter_is_passed_over") && new.waits_for(of).is_some();
+            (new.words[bucket], new.owner[name as usize]) = (Word::Lent, owner.filter(|_| !is_passed_over));
             return self.go_on(new, t, ask);
         }
-        new.words[self.target(ask)] = if self.has("refused_stays_fat") { Word::Lent } else { Word::Thin(of) };
+        new.words[bucket] = if self.has("refused_stays_fat") { Word::Lent } else { Word::Thin(of) };
         new.leave(t, At::Ready);
         Ok(())
     }
@@ -385,7 +371,6 @@ impl Search {
             _ => None,
         });
         none_of(&[
-            (waits_for.is_some() && state.words.contains(&Word::Thin(t)), "one that waits owns a name thinly"),
             (waits_for.is_some() && sleeps_for.is_none(), "one works, and waits"),
             (sleeps_for.is_some_and(|name| waits_for.is_none() && state.owner(name) != Some(t)), "one sleeps, and waits for nothing"),
             (chain.contains(&t), "one waits for itself"),

@@ -161,8 +161,7 @@ static void test_refusals(void)
         [65] = "of-another-time",
         [80] = "operator",
         "no-epoch",
-        [83] = "too-many",
-        "connections-full"};
+        [84] = "connections-full"};
     char line[64];
     int number;
     for (number = 0; number < 85; number++) {
@@ -378,6 +377,39 @@ static void add_live(void *context, const pashkure_remote_live *live)
         live->status.name);
 }
 
+/* The names of a transaction are asked for part by part, each after the last name of the one before. A name may be two dots. */
+static void test_parts(void)
+{
+    char given[8192] = "holds", told[8192] = "";
+    int name;
+    for (name = 0; name < 1024; name++)
+        sprintf(given + strlen(given), " %04d", name);
+    name = (int)strlen(given);
+    strcpy(given + name, " ..\n* granted 5.1 x\nholds a ..\n");
+    replies(given);
+    GIVES(OK, pashkure_remote_holds(&here, first, add_name, told));
+    CHECK(sent("holds 0.1\nholds 0.1 1023\n"));
+    CHECK(strncmp(told, "0000 0001 ", 10) == 0 && strcmp(told + 1023 * 5, "1023 a .. ") == 0);
+    told[0] = '\0';
+    strcpy(given + name - 5, " ..\nholds\n");
+    replies(given);
+    GIVES(OK, pashkure_remote_holds(&here, first, add_name, told));
+    CHECK(sent("holds 0.1\n") && strcmp(told + 1022 * 5, "1022 .. ") == 0);
+    told[0] = '\0';
+    strcpy(given + name - 5, " 1023 ..\nrefused no-transaction\ngranted\n");
+    replies(given);
+    GIVES(NO_TRANSACTION, pashkure_remote_holds(&here, first, add_name, told));
+    GIVES(OK, pashkure_remote_lock(&here, first, "a"));
+    told[0] = '\0';
+    strcpy(given + name, " 1024\n");
+    replies(given);
+    GIVES(PROTOCOL, pashkure_remote_holds(&here, first, add_name, told));
+    told[0] = '\0';
+    strcpy(given + name, " .. ..\n");
+    replies(given);
+    GIVES(PROTOCOL, pashkure_remote_holds(&here, first, add_name, told));
+}
+
 static void test_lists(void)
 {
     char text[256] = "", told[256] = "";
@@ -540,7 +572,7 @@ static void test_messages(void)
     static const char *const parts[86] = {"done", "owned the name before", "waits for the name", "cycle",
         "another transaction owns", [7] = "nobody owns", "aborted while", "in time", [16] = "has ended", [18] = "the transaction waits",
         "does not wait", [21] = "longer", "does not own", "transactions", "names", "wait", "counted", [32] = "is closed", "is open", [64] = "lost",
-        "does not understand", "no connection", "control", [80] = "operator", "epoch", [83] = "more names", "clients", "restart the service first"};
+        "does not understand", "no connection", "control", [80] = "operator", "epoch", [84] = "clients", "restart the service first"};
     int place, other;
     for (place = 0; place < 86; place++) {
         const char *message = pashkure_remote_message((pashkure_remote_result)place);
@@ -553,8 +585,8 @@ static void test_messages(void)
 int main(int count, char *words[])
 {
     static const struct test tests[] = {TEST(words), TEST(refusals), TEST(other_openings), TEST(names), TEST(waits), TEST(several), TEST(many_names),
-        TEST(reads), TEST(lists), TEST(cycles), TEST(bad_replies), TEST(closed), TEST(time_outs), TEST(taken_back), TEST(long_time), TEST(short_time),
-        TEST(looks), TEST(messages)};
+        TEST(reads), TEST(parts), TEST(lists), TEST(cycles), TEST(bad_replies), TEST(closed), TEST(time_outs), TEST(taken_back), TEST(long_time),
+        TEST(short_time), TEST(looks), TEST(messages)};
     there = -1;
     return tested(tests, sizeof tests / sizeof *tests, count > 1 ? words[1] : "");
 }

@@ -207,7 +207,7 @@ class Starts(StartCase):
         for program in self.path("no.program"), "/bin/false":
             told = run(*self.needs_server(), "--socket", path, "--program", program, env=environment())
             self.assertEqual((told.status, told.err.count(b"\n")), (1, 1), told.err)
-        for words in (["--transactions", "0"], ["--names", "65537"], ["--each", "0"], ["--connections", "65536"], ["--epoch", "0"], ["--epoch", "9223372036854775808"],
+        for words in (["--transactions", "0"], ["--names", "16777217"], ["--each", "0"], ["--connections", "65536"], ["--epoch", "0"], ["--epoch", "9223372036854775808"],
                       ["--heartbeat-fd", "0"], ["--heartbeat-ms", "1"], ["--group", "no such group"], ["--admin", path], ["--mode", "1000"], ["--names"], ["x"]):
             told = run(*self.needs_server(), "--socket", path, "--program", "/bin/false", *words, env=environment())
             self.assertEqual((told.status, told.out, told.err.count(b"\n")), (2, b"", 1), words)

@@ -35,7 +35,7 @@ DIALOGUE = [
     ("try", "granted"), ("try", "held"), ("try", "busy 2.7"), ("unlock", "unlocked"), ("unlock", "refused not-owner"), ("commit", "committed"),
     ("abort", "aborted"), ("cancel", "cancelled"), ("cancel", "refused not-waiting"),
     ("owner", "owner 2.7"), ("owner", "free"), ("status", "active"), ("status", "waiting a\\xff 2.7"),
-    ("holds", "holds"), ("holds", "holds a b"), ("holds", "refused too-many"),
+    ("holds", "holds"), ("holds", "holds a b"), ("holds", "holds a b .."), ("holds", "refused no-transaction"),
     ("fence", "fence 7 8"), ("fence", "refused no-epoch"), ("totals", "totals 1 2 3 4"),
     ("hello", "hello 1 2 3 4 5"), ("hello", "refused connections-full"), ("counts", "counts 1 2 3 4 5 6 7 8 9 10 later"), ("graph", "graph 0"),
     ("graph", "graph 2\n* 0.1 a 2.7\n* 2.7 b 0.1"), ("list", "list 3\n* 0.1 1 active 7\n* 1.1 3 waiting a 0.1 later\n* 2.1 2 waiting b 1.1"),
@@ -130,9 +130,26 @@ class Wire(Case):
                 same(asked, names)
             self.assertTrue(1000 - size % 1000 < max(sent) <= wire.LONGEST + 1, sent)
 
+    @each([("its own", ()), ("of a key", (b"7.1",))])
+    def test_parts(self, name: str, key: tuple[bytes, ...]) -> None:
+        """The names of a transaction are asked for part by part, each after the last name of the one before, and no more is asked than is needed."""
+        for count in 0, 1, 1023, 1024, 1025, 2048, 2049:
+            names, asks, answer = [b"%04d" % number for number in range(count)], [], None
+            flow = flows.holds(flows.State(session=STEPS, key=b"7.1"), *key)
+            try:
+                while True:
+                    asks.append(flow.send(answer))
+                    left = names[STEPS.part * (len(asks) - 1) :]
+                    answer = (b"holds", *left[: STEPS.part], *([b".."] if len(left) > STEPS.part else []))
+            except StopIteration as end:
+                same(end.value, [name.decode() for name in names])
+            same(asks, [Ask(b"holds", (*key, *names[at - 1 : at])) for at in range(0, max(count, 1), STEPS.part)])
+
 
 class Steps:
     """A session whose calls are what a flow is seen to await; it is sent what they return."""
+
+    part = 1024
 
     @types.coroutine
     def ask(self, step: Any) -> Any:

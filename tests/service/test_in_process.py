@@ -16,10 +16,10 @@ from service import test_python, test_trouble
 from service.test_python import OPTIONS, Calls
 
 import build_backend
-from pashkure import Aborted, Closed, Counts, Deadlock, Locks, Misuse, Status, Timeout, Totals, Wait, aio
+from pashkure import Aborted, Closed, Counts, Deadlock, Full, Locks, Misuse, Status, Timeout, Totals, Wait, aio
 
 HEADERS = sysconfig.get_path("include")
-LABELS, EVENTS = 8_796_093_022_207, 4_611_686_018_426_339_328  # of pashkure.h
+LABELS, EVENTS = 8_796_093_022_207, 4_611_686_018_360_279_040  # of pashkure.h
 USE = "import pashkure; locks = pashkure.Locks.in_process(); print(locks.transaction('a').holds())"
 
 
@@ -84,11 +84,20 @@ class Inside(Calls):
         two.commit()
         counts = self.locks.counts()
         same((counts.begun, counts.committed, counts.aborted, counts.deadlocks, counts.waits, counts.withdrawn), (2, 1, 1, 1, 1, 0))
-        same((counts.events > 0, counts.labels_left, counts.counts_left), (True, LABELS - counts.events, EVENTS - counts.events))
+        same((counts.events > 0, counts.labels_left, counts.counts_left), (True, LABELS - counts.deadlocks - counts.waits, EVENTS - counts.events))
+
+    def test_many_names(self) -> None:
+        """One transaction owns 100,000 names, which is all that there can be."""
+        locks = self.opened(names=100_000)  # type: ignore[attr-defined]
+        tx = locks.transaction(*map(str, range(100_000)))
+        raises(Full, tx.lock, "x")
+        same((len(locks.locks()), len(tx.holds())), (100_000, 100_000))
+        tx.commit()
+        same(locks.locks(), {})
 
     def test_ranges(self) -> None:
         """What is out of range is named."""
-        for what, number in ("transactions", 0), ("names", 65_537), ("name_bytes", 1_025):
+        for what, number in ("transactions", 0), ("names", 16_777_217), ("name_bytes", 1_025):
             same(str(raises(ValueError, self.opened, **{what: number})), f"{what} is out of range")  # type: ignore[attr-defined]
 
     def test_unlock(self) -> None:

@@ -55,8 +55,9 @@ class Calls(Opener):
                 same(other.try_lock("a"), True)
             raises(NotOwner, tx.unlock, "a")
             same(self.operator.holds(tx.key), ["b"])
-            tx.lock("z", "y", "x", *(f"n{number}" for number in range(500)))
-            same(len(tx.holds()), 504)
+            many = [f"n{number}" for number in range(2500)]
+            tx.lock("z", "y", "x", *many)
+            same((tx.holds(), self.operator.holds(tx.key)), (sorted(["b", *many, "x", "y", "z"]),) * 2)
         same(locks.owner("b"), None)
         raises(NoTransaction, tx.lock, "a")
         raises(NoTransaction, tx.commit)

@@ -107,6 +107,8 @@ class Session(Party, Ending):
     """The number of the service's start."""
     name_bytes = 0
     """How many bytes a name may have."""
+    part = 1024
+    """How many names one answer to `holds` tells. If the transaction owns more, a last word says so."""
     _is_woken = False
 
     ask: Callable[[Ask], Any]

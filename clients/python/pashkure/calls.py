@@ -10,7 +10,7 @@ from . import flows
 from .backend import BY_DROP, LOST, RESTARTED, made, now
 from .errors import Aborted, CannotConnect, Closed, Deadlock, LockError, LocksLost, NoTransaction, Waiting, again
 from .in_process import Manages
-from .values import Fence, Name, Retry, Status, Totals, decoded, encoded, seconds
+from .values import Fence, Name, Retry, Status, Totals, encoded, seconds
 from .wire import Answer, Ask
 
 L = TypeVar("L", bound="Opened")
@@ -66,7 +66,7 @@ class Calls:
 
     def holds(self) -> List[str]:
         """The names that the transaction owns, in the order of their bytes."""
-        return self._ask(b"holds", lambda words: [decoded(word) for word in words[1:]])
+        return self._call("", (), flows.holds)
 
     def status(self) -> Status:
         """What the transaction does. Any thread or task may call it; while it waits, this is known here, and nothing is asked."""
@@ -92,10 +92,10 @@ class Calls:
     def _ask(self, word: bytes, read: Callable[[Answer], R], *names: Name, kind: str = "", deadline: float = math.inf) -> R:
         return self._call(kind, (), flows.asked, Ask(word, tuple(map(encoded, names)), deadline), read)
 
-    def _plain(self, ask: Ask, read: Callable[[Answer], R]) -> R:
-        """What a request without a transaction says. None begins."""
+    def _plain(self, flow: Callable[..., Awaitable[R]], *args: Any) -> R:
+        """What a flow without a transaction says. None begins."""
         self._own = "nobody"
-        result: R = self._call("", (), self._over, math.inf, flows.asked, ask, read)
+        result: R = self._call("", (), self._over, math.inf, flow, *args)
         return result
 
     def _begin(self) -> Any:
@@ -244,7 +244,7 @@ class Opened(Manages):
         return self._ask(b"totals", lambda words: Totals(*map(int, words[1:])))
 
     def _ask(self, word: bytes, read: Callable[[Answer], R], *names: Name) -> R:
-        return self._kind(self._backend)._plain(Ask(word, tuple(map(encoded, names))), read)
+        return self._kind(self._backend)._plain(flows.asked, Ask(word, tuple(map(encoded, names))), read)
 
     async def _attempts(self, attempt: Callable[[], Awaitable[R]]) -> R:
         """What an attempt returns, which is made again after a deadlock."""

@@ -47,7 +47,7 @@ class Timeout(LockError, TimeoutError):
 
 
 class Full(LockError):
-    """There is no room. `what` is "transactions", "names", "connections", "labels", "counts" or "reply" (for more than 1,024 names).
+    """There is no room. `what` is "transactions", "names", "connections", "labels" or "counts".
 
     `is_lasting` says whether the service has to be started again before there is room.
     """
@@ -57,7 +57,7 @@ class Full(LockError):
         self.what, self.is_lasting = what, what in ("labels", "counts")
 
     def __str__(self) -> str:
-        return f"there is no room for more {self.what}" if self.what != "reply" else "these are more names than a reply has room for"
+        return f"there is no room for more {self.what}"
 
 
 # fmt: off
@@ -96,7 +96,6 @@ _REFUSALS = {
     b"operator": Misuse("only the operator may ask for this, at the operator's socket"),
     b"no-epoch": Misuse("the service was started without an epoch, so it has no fences"),
     b"no-transaction": NoTransaction("no live transaction has this key"),
-    b"too-many": Full("reply"),
 }
 
 

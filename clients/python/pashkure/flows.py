@@ -124,8 +124,18 @@ async def asked(state: State, ask: Ask, read: Callable[[Answer], R]) -> R:
     words: Answer = await state.session.ask(ask)
     state.is_over = not state.key or words[0] == b"committed"
     if words[0] == b"refused":
-        raise _refused(state, words, *ask.names)
+        raise _refused(state, words, *ask.names[:1])
     return read(words)
+
+
+async def holds(state: State, *key: bytes) -> List[str]:
+    """The names that the transaction owns, or the one with this key. Each request is answered by a part of them."""
+    names: List[bytes] = []
+    while True:
+        told = await asked(state, Ask(b"holds", (*key, *names[-1:])), lambda words: words[1:])
+        names += told[: state.session.part]
+        if len(told) <= state.session.part:
+            return [decoded(name) for name in names]
 
 
 async def abort(state: State) -> None:

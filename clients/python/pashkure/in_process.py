@@ -4,6 +4,7 @@ from __future__ import annotations
 import importlib
 import math
 import os
+import sys
 import threading
 import weakref
 from time import monotonic
@@ -23,12 +24,14 @@ HELD, WAITS, DEADLOCK, BUSY = range(1, 5)
 """Results of `pashkure.h`."""
 REFUSALS = {16: b"no-transaction", **dict(enumerate((b"waiting", b"not-waiting", b"name-empty", b"name-too-long", b"not-owner",
                                                      b"transactions-full", b"names-full", b"labels-full", b"counts-full"), 18))}  # fmt: skip
-LIMITS = (8_796_093_022_207, 4_611_686_018_426_339_328)
-"""The numbers of events at which `PASHKURE_LABELS_FULL` and `PASHKURE_COUNTS_FULL` begin."""
+LIMITS = (8_796_093_022_207, 4_611_686_018_360_279_040)
+"""`PASHKURE_LABELS_FULL` begins at so many requests that waited or were told of a deadlock, `PASHKURE_COUNTS_FULL` at so many events."""
 
 
 class Inside(backend.Session):
     """A session without its ways to sleep: at most one transaction, whose requests are answered as the service answers them."""
+
+    part = sys.maxsize  # one answer has all names
 
     def __init__(self, owner: "InProcess") -> None:
         super().__init__()
@@ -129,7 +132,9 @@ class Inside(backend.Session):
 
     def _counts(self, names: Sequence[bytes]) -> Answer:
         *counted, events = self._manager.totals()
-        return (b"counts", *(b"%d" % number for number in (*counted, events, *(max(0, limit - events) for limit in LIMITS))))
+        deadlocks, waits = counted[3:5]
+        left = LIMITS[0] - deadlocks - waits, LIMITS[1] - events
+        return (b"counts", *(b"%d" % max(0, number) for number in (*counted, events, *left)))
 
     def _fence(self, names: Sequence[bytes]) -> Answer:
         raise Misuse("in process there are no fences: whoever loses its locks there is this process, and has ended with them")
@@ -223,7 +228,7 @@ class Manages:
         it is not.
 
         - `transactions`: how many can be live at a time, 1 to 65,536.
-        - `names`: how many can be owned at a time, 1 to 65,536. `name_bytes`: how many bytes each may have, 1 to 1,024.
+        - `names`: how many can be owned at a time, 1 to 16,777,216. `name_bytes`: how many bytes each may have, 1 to 1,024.
         - `retry`, `on_event`, `slow_wait`: as for `connect`.
         """
         kind: Any = cls

@@ -7,9 +7,9 @@ from typing import TYPE_CHECKING, Any, Callable, Iterator, List, Optional, Tuple
 from .backend import OnEvent, Watch, now
 from .calls import Calls, Opened
 from .errors import Wait
-from .flows import counts_of, cycle_of, next_told, status_of, waits_of
+from .flows import asked, counts_of, cycle_of, holds, next_told, status_of, waits_of
 from .service import Path, Service
-from .values import Client, Counts, Live, Name, Retry, Status, decoded, encoded, key_bytes, seconds
+from .values import Client, Counts, Live, Name, Retry, Status, encoded, key_bytes, seconds
 from .wire import Answer, Ask
 
 if TYPE_CHECKING:
@@ -122,8 +122,9 @@ class Operator(Closes):
         return self._ask(b"status", status_of, key_bytes(key))
 
     def holds(self, key: str) -> List[str]:
-        """The names that the transaction with this key owns, in the order of their bytes."""
-        return self._ask(b"holds", lambda words: [decoded(word) for word in words[1:]], key_bytes(key))
+        """The names that the transaction with this key owns, in the order of their bytes. They are read in parts of 1,024 names: one that it
+        comes to own or gives back meanwhile may be among them or not."""
+        return Transaction(self._backend)._plain(holds, key_bytes(key))
 
     def abort(self, key: str) -> None:
         """Aborts the transaction with this key, whatever it does: its call that waits, or its next one, raises `Aborted`."""
@@ -149,7 +150,7 @@ class Operator(Closes):
         return (cycle_of(words[1:]) for words in told)
 
     def _ask(self, word: bytes, read: Callable[[Answer], R], *names: bytes) -> R:
-        return Transaction(self._backend)._plain(Ask(word, names), read)
+        return Transaction(self._backend)._plain(asked, Ask(word, names), read)
 
 
 def _live(key: bytes, client: bytes, *status: bytes) -> Live:

@@ -75,7 +75,8 @@ class Totals:
 
 @dataclass(frozen=True)
 class Counts(Totals):
-    """The same, and more for an operator: how many events are left until the service has to be started again."""
+    """The same, and more for an operator: how many requests can yet wait or be told of a deadlock, and how many events can be counted, until
+    the service has to be started again."""
     waits: int
     withdrawn: int
     events: int

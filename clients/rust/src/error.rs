@@ -58,9 +58,9 @@ results! {
         TransactionsFull = 23,
         /// As many names are owned as there is room for, and this is a further one. Each end makes room.
         NamesFull = 24,
-        /// After 8,796,093,022,207 events nobody may begin to wait. End all transactions, and open another manager.
+        /// After 8,796,093,022,207 requests that waited or were told of a deadlock nobody may ask for what another one owns. End all transactions, and open another manager.
         LabelsFull = 25,
-        /// After 4,611,686,018,426,339,328 events only ends are taken. End all transactions, and open another manager.
+        /// After 4,611,686,018,360,279,040 events only ends are taken. End all transactions, and open another manager.
         CountsFull = 26,
     }
 }
@@ -90,9 +90,9 @@ results! {
         TransactionsFull = 23,
         /// As many names are owned as there is room for, and this is a further one. Each end makes room.
         NamesFull = 24,
-        /// After 8,796,093,022,207 events nobody may begin to wait. End all transactions, and open other locks.
+        /// After 8,796,093,022,207 requests that waited or were told of a deadlock nobody may ask for what another one owns. End all transactions, and open other locks.
         LabelsFull = 25,
-        /// After 4,611,686,018,426,339,328 events only ends are taken. End all transactions, and open other locks.
+        /// After 4,611,686,018,360,279,040 events only ends are taken. End all transactions, and open other locks.
         CountsFull = 26,
     }
 }
@@ -128,7 +128,7 @@ results! {
         Version = 34,
         /// The number of transactions is not within 1 to 65,536.
         Transactions = 35,
-        /// The number of names is not within 1 to 65,536.
+        /// The number of names is not within 1 to 16,777,216.
         Names = 36,
         /// The number of bytes is not within 1 to 1,024.
         NameBytes = 37,

@@ -10,7 +10,7 @@ pub(crate) fn random() -> u64 {
 }
 
 /// The numbers with which a manager is opened. It takes at most `(name_bytes + 71) * names + 81 * transactions + 1,000` bytes, and
-/// [`Locks`](crate::Locks) 16 bytes more a bucket, 12 a name, and some 3,600 a transaction.
+/// [`Locks`](crate::Locks) 16 bytes more a bucket, 12 a name, and some 4,600 a transaction.
 #[derive(Clone, Debug)]
 pub struct Config {
     pub(crate) transactions: u32,
@@ -21,7 +21,7 @@ pub struct Config {
 }
 
 impl Config {
-    /// How many transactions can be live at a time, and how many names can be owned at a time: each 1 to 65,536. [`Locks`](crate::Locks) count
+    /// How many transactions can be live at a time, and how many names can be owned at a time: 1 to 65,536 and 1 to 16,777,216. [`Locks`](crate::Locks) count
     /// only names that somebody asked for while another one owned them. A name has up to 64 bytes, and the seed is drawn by chance.
     pub fn new(transactions: u32, names: u32) -> Config {
         Config { transactions, names, name_bytes: 64, seed: random(), buckets: 0 }
@@ -159,6 +159,6 @@ pub struct Totals {
     pub waits: u64,
     /// Waits that were taken back.
     pub withdrawn: u64,
-    /// Events, which `LabelsFull` and `CountsFull` limit.
+    /// Events, which `CountsFull` limits; `LabelsFull` limits `waits` and `deadlocks` together.
     pub events: u64,
 }

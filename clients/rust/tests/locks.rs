@@ -271,7 +271,7 @@ fn wrong_use_is_an_error() {
     assert_eq!(LockError::NotOwner.to_string(), "the transaction does not own the name");
     let refused = |config| Locks::open(&config).unwrap_err();
     assert_eq!(refused(Config::new(0, 1)), OpenError::Transactions);
-    assert_eq!(refused(Config::new(1, 65_537)), OpenError::Names);
+    assert_eq!(refused(Config::new(1, 16_777_217)), OpenError::Names);
     assert_eq!(refused(Config::new(1, 1).name_bytes(0)), OpenError::NameBytes);
     assert_eq!(refused(Config::new(1, 1).buckets(16_777_217)), OpenError::Buckets);
 }

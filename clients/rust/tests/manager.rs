@@ -74,6 +74,20 @@ fn who_waits_is_aborted_at_once() {
 }
 
 #[test]
+fn one_transaction_owns_a_hundred_thousand_names() {
+    const MANY: u32 = 100_000;
+    let mut manager = LockManager::open(&Config::new(2, MANY).name_bytes(8)).unwrap();
+    let (one, two) = (manager.begin().unwrap(), manager.begin().unwrap());
+    for name in 0..MANY {
+        assert_eq!(manager.lock(one, name.to_le_bytes()), Ok(Lock::Owned(Owned::New)));
+    }
+    assert_eq!(manager.lock(one, MANY.to_le_bytes()), Err(Refusal::NamesFull));
+    assert_eq!(manager.lock(two, 7u32.to_le_bytes()), Ok(Lock::Waits));
+    assert_eq!(manager.commit(one).unwrap().map(|wake| wake.key).collect::<Vec<_>>(), [two]);
+    assert_eq!(manager.lock(two, MANY.to_le_bytes()), Ok(Lock::Owned(Owned::New)));
+}
+
+#[test]
 fn wrong_use_is_an_error() {
     let mut manager = opened();
     let (one, _two) = (owner(&mut manager, "x"), owner(&mut manager, "y"));

@@ -140,7 +140,9 @@ Requests and their replies:
   cancel K       cancelled: K waits no longer
   owner NAME     owner K, or free
   status K       active, or waiting NAME H
-  holds K        holds NAME ..: the names that K owns
+  holds K        holds NAME ..: the names that K owns, in the order of their
+                 bytes; after 1024 names stands '..' if there are more. By
+                 'holds K FROM' those are told that come after the name FROM
   graph          graph N, and N lines '* K NAME H': the waits
   totals         totals BEGUN COMMITTED ABORTED DEADLOCKS
 
@@ -152,8 +154,8 @@ spaces and control characters. A line that is no request has the reply
 'malformed'. Lines that are blank or begin with # have none.
 
 Ranges:
-  --transactions  1 to 65536   --name-bytes   1 to 1024
-  --names         1 to 65536   --connections  1 to 65536
+  --transactions  1 to 65536      --name-bytes   1 to 1024
+  --names         1 to 16777216   --connections  1 to 65536
   --each          1 to 65536, a quarter of --transactions if it is not given
   --epoch         1 to 9223372036854775807
   --seed          0 to 18446744073709551615
@@ -193,7 +195,6 @@ A refused request changes nothing and has the reply 'refused' with a word:
   counts-full        the count of events is at its limit
   operator           the operator alone may ask for this, or it may not
   no-epoch           the service has no --epoch
-  too-many           K owns more than 1024 names
 
 Exit statuses:
   0  the input ended, and no line was malformed; help was asked for

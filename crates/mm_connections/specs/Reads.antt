@@ -1,5 +1,5 @@
 -- What is read of a service with connections.
-use Rattle.std.specs.Prelude.{◌≡◌, ◌⊎◌, ◌↔◌, ℕ, Bool, true, false, ◌||◌, List, [], ◌∷◌, ◌++◌, length, Option, Some, None, unwrap_or, codes, decimal, nat_eq, nat_le, nat_lt, if◌then◌else◌}
+use Rattle.std.specs.Prelude.{◌≡◌, ◌↔◌, ℕ, false, List, [], ◌∷◌, ◌++◌, length, Option, Some, None, unwrap_or, codes, decimal, nat_lt, if◌then◌else◌}
 use Rattle.std.specs.Option.{option_map_or}
 use Rattle.mm_arena.specs.declared.key.Key.{Key}
 use Rattle.mm_arena.specs.Key.{key_text}
@@ -10,24 +10,13 @@ use Rattle.mm_manager.specs.Permit.{counts_left, labels_left}
 use Rattle.mm_manager.specs.Reads.{live_of, waits_of}
 use Rattle.mm_manager.specs.declared.refusal.Refusal.TheVariants as refusals
 use Rattle.mm_manager.specs.declared.reply.Wait.{Wait}
+use Rattle.mm_service.specs.Holds.{HoldsText}
 use Rattle.mm_service.specs.Reply.{answer_text, edge_text, line_text, name_at, refusal_word, status_text}
-use Rattle.mm_service.specs.Text.{AreHeld, names_text}
 use Rattle.mm_connections.specs.Begun.{connection_of}
 use Rattle.mm_connections.specs.Hub.{Hub, to}
 use Rattle.mm_connections.specs.Status.{status_of}
 use Rattle.mm_connections.specs.declared.request.ReadRequest.{ReadRequest}
 use Rattle.mm_connections.specs.declared.request.ReadRequest.TheVariants as reads
-
--- ---- the names that a transaction owns
-
--- more than 1,024 names are told to the operator alone
-abbrev pub held_text : Bool → LockState → List ℕ → List ℕ
-held_text is_operator m numbers = if is_operator || nat_le (length numbers) 1024 then codes "holds" ++ names_text m numbers else codes "refused too-many"
-
-abbrev pub HeldText : Bool → LockState → Key → List ℕ → Type 0
-HeldText is_operator m k out =
-    ((is_live m.table k ≡ true) × ((numbers : List ℕ) × AreHeld m k numbers × (out ≡ line_text (held_text is_operator m numbers))))
-    ⊎ ((is_live m.table k ≡ false) × (out ≡ line_text (codes "refused " ++ refusal_word refusals.NoTransaction)))
 
 -- ---- fences
 
@@ -57,7 +46,7 @@ hello_text h =
 abbrev pub counts_text : LockState → List ℕ
 counts_text m =
     (codes "counts " ++ decimal m.totals.begun) ++ (codes " " ++ decimal m.totals.committed) ++ (codes " " ++ decimal m.totals.aborted) ++ (codes " " ++ decimal m.totals.deadlocks)
-    ++ (codes " " ++ decimal m.totals.waits) ++ (codes " " ++ decimal m.totals.withdrawn) ++ (codes " " ++ decimal m.table.totals.accepted) ++ (codes " " ++ decimal (labels_left m.table))
+    ++ (codes " " ++ decimal m.totals.waits) ++ (codes " " ++ decimal m.totals.withdrawn) ++ (codes " " ++ decimal m.table.totals.accepted) ++ (codes " " ++ decimal (labels_left m.table m.totals))
     ++ (codes " " ++ decimal (counts_left m.table))
 
 -- ---- the wait-for graph
@@ -95,7 +84,7 @@ list_text c h = line_text (codes "list " ++ decimal (length (live_of h.manager.t
 
 -- the reply to a read by connection c, without its number in front
 abbrev pub ReadReply : ℕ → ReadRequest → List ℕ → Hub → List ℕ → Type 0
-ReadReply c (reads.Holds k) name h out = HeldText (nat_eq c 0) h.manager k out
+ReadReply c (reads.Holds k) from h out = HoldsText h.manager k from out
 ReadReply c (reads.Fence k) name h out = FenceText h k name out
 ReadReply c reads.Hello name h out = out ≡ line_text (hello_text h)
 ReadReply c reads.Graph name h out = out ≡ graph_text c h.manager

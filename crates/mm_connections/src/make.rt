@@ -3,6 +3,7 @@ ghost use Rattle.std.specs.Prelude.{◌≡◌, ◌<◌, ◌≤◌, ◌+◌, ◌+
 ghost use Rattle.arrayvec.specs.ArrayVec.{array_vec_len};
 ghost use Rattle.mm_lines.specs.Output.{Writes};
 ghost use Rattle.mm_lines.specs.Words.{words_of};
+ghost use Rattle.mm_service.specs.Holds.{HasRoom};
 ghost use Rattle.mm_connections.specs.Hub.{IsLawfulHub};
 ghost use Rattle.mm_connections.specs.Text.{Asks, AsksAll, BeginsBy, RepliesTo, events_text, full_refusal, is_full};
 ghost use Rattle.mm_connections.specs.Begun.{aside_list};
@@ -17,7 +18,7 @@ use crate::served::ServedManager;
 use mm_lines::{Fault, OUTPUT_LEN, Output, Words};
 use mm_manager::{Key, LockManager, Refusal};
 use mm_service::reply::{MAX_NAMED, print_begun};
-use mm_service::{Asked, Effect, MAX_REQUEST, make};
+use mm_service::{Asked, Effect, MAX_REQUEST, Numbers, make};
 use std::io::Write;
 
 impl ServedManager {
@@ -27,12 +28,14 @@ impl ServedManager {
     pub(crate) fn make<W: Write>(
         &mut self,
         heard: Heard<'_, ClientRequest>,
+        numbers: &mut Numbers,
         output: &mut Output,
         writer: &mut W,
     ) -> Result<(), Fault>
         requires room { array_vec_len output.old + MAX_NAMED ≤ OUTPUT_LEN }
         requires connection { aside_list heard.connection < length self.old.begun.lists }
         requires slots { self.old.manager.table.config.processes ≤ length self.old.begun.spots }
+        requires numbers { HasRoom self.old.manager numbers.old }
         requires short { length heard.name.now ≤ MAX_REQUEST }
         ensures makes { (reply : List ℕ) × (effect : Effect) × (lost : List ℕ) × RepliesTo heard.entry.connection heard.entry.request heard.entry.name.now (hub_of self.old) reply effect (hub_of self.new) × IsLawfulHub (hub_of self.new)
             × Writes (W.contents writer.old) (W.contents writer.new) (output.old.items ++ (reply ++ events_text heard.entry.connection heard.entry.request heard.entry.name.now (hub_of self.new) effect)) lost × OnOk result (lost ≡ output.new.items) }
@@ -41,8 +44,9 @@ impl ServedManager {
         ensures spots { length self.new.begun.spots ≡ length self.old.begun.spots }
         ensures config { self.new.manager.table.config ≡ self.old.manager.table.config }
         ensures options { self.new.options ≡ self.old.options }
+        ensures numbers { HasRoom self.new.manager numbers.new }
     {
-        let outcome = self.reply(heard, output, writer);
+        let outcome = self.reply(heard, numbers, output, writer);
         self.manager.keeps_laws();
         self.begun.keeps_laws();
         match outcome {
@@ -55,12 +59,14 @@ impl ServedManager {
     fn reply<W: Write>(
         &mut self,
         heard: Heard<'_, ClientRequest>,
+        numbers: &mut Numbers,
         output: &mut Output,
         writer: &mut W,
     ) -> Result<Effect, Fault>
         requires room { array_vec_len output.old + MAX_NAMED ≤ OUTPUT_LEN }
         requires connection { aside_list heard.connection < length self.old.begun.lists }
         requires slots { self.old.manager.table.config.processes ≤ length self.old.begun.spots }
+        requires numbers { HasRoom self.old.manager numbers.old }
         requires short { length heard.name.now ≤ MAX_REQUEST }
         ensures replies { (reply : List ℕ) × (effect : Effect) × (lost : List ℕ) × RepliesTo heard.entry.connection heard.entry.request heard.entry.name.now (hub_of self.old) reply effect (hub_of self.new)
             × Writes (W.contents writer.old) (W.contents writer.new) (output.old.items ++ reply) lost × IfOk result (λ it. (it ≡ effect) × (lost ≡ output.new.items)) }
@@ -69,14 +75,20 @@ impl ServedManager {
         ensures spots { length self.new.begun.spots ≡ length self.old.begun.spots }
         ensures config { self.new.manager.table.config ≡ self.old.manager.table.config }
         ensures options { self.new.options ≡ self.old.options }
+        ensures numbers { HasRoom self.new.manager numbers.new }
     {
         let name = heard.name;
         match heard.request {
             ClientRequest::Begin => self.begin(heard.connection, name, output, writer),
             ClientRequest::LockAll(key) => self.lock_all(key, name, output, writer),
-            ClientRequest::Plain(request) => self.ask(Asked { request, name }, output, writer),
+            ClientRequest::Plain(request) => self.ask(
+                Asked { request, name },
+                numbers,
+                output,
+                writer,
+            ),
             ClientRequest::Read(request) => {
-                let outcome = self.read(heard.reading(request), output, writer);
+                let outcome = self.read(heard.reading(request), numbers, output, writer);
                 outcome.and(Ok(Effect::Nothing))
             }
         }
@@ -86,18 +98,21 @@ impl ServedManager {
     fn ask<W: Write>(
         &mut self,
         asked: Asked<'_>,
+        numbers: &mut Numbers,
         output: &mut Output,
         writer: &mut W,
     ) -> Result<Effect, Fault>
-        requires { array_vec_len output.old + MAX_NAMED ≤ OUTPUT_LEN }
+        requires room { array_vec_len output.old + MAX_NAMED ≤ OUTPUT_LEN }
+        requires numbers { HasRoom self.old.manager numbers.old }
         ensures replies { (reply : List ℕ) × (effect : Effect) × (lost : List ℕ) × Asks asked.entry.request asked.entry.name.now (hub_of self.old) reply effect (hub_of self.new)
             × Writes (W.contents writer.old) (W.contents writer.new) (output.old.items ++ reply) lost × IfOk result (λ it. (it ≡ effect) × (lost ≡ output.new.items)) }
         ensures fault { IsOkUnless result Fault.Write }
         ensures begun { self.new.begun ≡ self.old.begun }
         ensures config { self.new.manager.table.config ≡ self.old.manager.table.config }
         ensures options { self.new.options ≡ self.old.options }
+        ensures numbers { HasRoom self.new.manager numbers.new }
     {
-        let effect = make(&mut self.manager, &mut self.numbers, asked, output, writer)?;
+        let effect = make(&mut self.manager, numbers, asked, output, writer)?;
         count(&self.begun, &mut self.counts, effect);
         Ok(effect)
     }

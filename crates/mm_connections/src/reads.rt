@@ -3,11 +3,11 @@ ghost use Rattle.std.specs.Prelude.{◌≡◌, ◌≤◌, ◌+◌, ◌++◌, ℕ
 ghost use Rattle.arrayvec.specs.ArrayVec.{array_vec_len};
 ghost use Rattle.mm_lines.specs.Output.{Prints, Writes};
 ghost use Rattle.mm_manager.specs.Reads.{live_of, waits_of};
+ghost use Rattle.mm_service.specs.Holds.{HasRoom};
 ghost use Rattle.mm_service.specs.Reply.{line_text};
 ghost use Rattle.mm_connections.specs.Hub.{to};
-ghost use Rattle.mm_connections.specs.Reads.{FenceText, ReadReply, connection_text, counts_text, edge_lines, fence_by, graph_text, held_text, hello_text, list_text, live_line, live_lines};
+ghost use Rattle.mm_connections.specs.Reads.{FenceText, ReadReply, connection_text, counts_text, edge_lines, fence_by, graph_text, hello_text, list_text, live_line, live_lines};
 
-use crate::permission::OPERATOR;
 use crate::request::{Heard, ReadRequest};
 use crate::served::{MAX_ANSWER, ServedManager, print_to};
 use mm_lines::{Fault, OUTPUT_LEN, Output, make_room, print_key, print_number, print_text};
@@ -15,11 +15,8 @@ use mm_manager::{Key, LockManager};
 use mm_service::reply::{
     MAX_NAMED, MAX_REPLY, end_line, name_at, print_edge, print_line, print_status,
 };
-use mm_service::{count_waits, list_held, write_list};
+use mm_service::{Numbers, count_waits, write_holds};
 use std::io::Write;
-
-/// How many names of a transaction are told to others than the operator.
-const MAX_HELD: usize = 1_024;
 
 /// A line of a list has at most this many bytes.
 const MAX_LIVE: usize = MAX_NAMED + 100;
@@ -29,26 +26,23 @@ impl ServedManager {
 
     /// Reads something for a connection.
     pub(crate) fn read<W: Write>(
-        &mut self,
+        &self,
         heard: Heard<'_, ReadRequest>,
+        numbers: &mut Numbers,
         output: &mut Output,
         writer: &mut W,
     ) -> Result<(), Fault>
-        requires { array_vec_len output.old + MAX_NAMED ≤ OUTPUT_LEN }
-        ensures read { (text : List ℕ) × (lost : List ℕ) × ReadReply heard.entry.connection heard.entry.request heard.entry.name.now (hub_of self.old) text
+        requires room { array_vec_len output.old + MAX_NAMED ≤ OUTPUT_LEN }
+        requires numbers { HasRoom self.now.manager numbers.old }
+        ensures read { (text : List ℕ) × (lost : List ℕ) × ReadReply heard.entry.connection heard.entry.request heard.entry.name.now (hub_of self.now) text
             × Writes (W.contents writer.old) (W.contents writer.new) (output.old.items ++ text) lost × OnOk result (lost ≡ output.new.items) }
         ensures fault { IsOkUnless result Fault.Write }
-        ensures hub { hub_of self.new ≡ hub_of self.old }
+        ensures numbers { HasRoom self.now.manager numbers.new }
     {
         let connection = heard.connection;
         match heard.request {
-            ReadRequest::Holds(key) if self.manager.status(key).is_err() => {
-                print_line(output, b"refused no-transaction");
-                Ok(())
-            }
             ReadRequest::Holds(key) => {
-                list_held(&self.manager, &mut self.numbers, key);
-                self.write_held(connection == OPERATOR, output, writer)
+                write_holds(&self.manager, numbers, key, heard.name, output, writer)
             }
             ReadRequest::Fence(key) => {
                 self.print_fence(key, heard.name, output);
@@ -64,26 +58,6 @@ impl ServedManager {
                 print_counts(&self.manager, output);
                 Ok(())
             }
-        }
-    }
-
-    /// Writes the names that were listed, if they are not too many.
-    fn write_held<W: Write>(
-        &self,
-        is_operator: bool,
-        output: &mut Output,
-        writer: &mut W,
-    ) -> Result<(), Fault>
-        requires { array_vec_len output.old + MAX_REPLY ≤ OUTPUT_LEN }
-        ensures written { (lost : List ℕ) × Writes (W.contents writer.old) (W.contents writer.new) (output.old.items ++ line_text (held_text is_operator self.now.manager self.now.numbers.items.items)) lost
-            × OnOk result (lost ≡ output.new.items) }
-        ensures fault { IsOkUnless result Fault.Write }
-    {
-        if is_operator || self.numbers.count() <= MAX_HELD {
-            write_list(&self.manager, &self.numbers, output, writer)
-        } else {
-            print_line(output, b"refused too-many");
-            Ok(())
         }
     }
 

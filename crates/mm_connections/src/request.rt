@@ -22,7 +22,7 @@ pub enum ClientRequest {
 /// What is read. Nothing changes by it.
 #[derive(Clone, Copy)]
 pub enum ReadRequest {
-    /// The names that a transaction owns.
+    /// The names that a transaction owns: those after the name that stands beside it, or from the first one on.
     Holds(Key),
     /// The fence of a name that a transaction owns.
     Fence(Key),

@@ -2,6 +2,7 @@
 ghost use Rattle.std.specs.Prelude.{◌≡◌, ◌<◌, ◌≤◌, ◌+◌, ◌*◌, ◌++◌, ℕ, List, length, codes, decimal, IfOk, OnOk, IsOkUnless, if◌then◌else◌};
 ghost use Rattle.arrayvec.specs.ArrayVec.{array_vec_len};
 ghost use Rattle.mm_lines.specs.Output.{Prints, Writes};
+ghost use Rattle.mm_service.specs.Holds.{HasRoom};
 ghost use Rattle.mm_connections.specs.Hub.{IsLawfulHub};
 ghost use Rattle.mm_connections.specs.Text.{Answers, Serves};
 ghost use Rattle.mm_connections.specs.Begun.{aside_list};
@@ -25,7 +26,6 @@ pub const MAX_ANSWER: usize = MAX_NAMED + 21;
 #[derive(Drop)]
 pub struct ServedManager {
     pub manager: LockManager,
-    pub numbers: Numbers,
     pub begun: Begun,
     pub counts: Counts,
     pub options: ConnectionOptions,
@@ -38,12 +38,14 @@ impl ServedManager {
     pub fn answer<W: Write>(
         &mut self,
         line: &[u8],
+        numbers: &mut Numbers,
         output: &mut Output,
         writer: &mut W,
     ) -> Result<bool, Fault>
         requires room { array_vec_len output.old + MAX_ANSWER ≤ OUTPUT_LEN }
         requires lists { length self.old.begun.lists ≡ self.old.options.connections * 2 }
         requires slots { self.old.manager.table.config.processes ≤ length self.old.begun.spots }
+        requires numbers { HasRoom self.old.manager numbers.old }
         ensures answered { (reply : List ℕ) × (one : ℕ) × (lost : List ℕ) × Answers (hub_of self.old) line.now reply one (hub_of self.new)
             × Writes (W.contents writer.old) (W.contents writer.new) (output.old.items ++ reply) lost
             × IfOk result (λ malformed. (one ≡ (if malformed then 1 else 0)) × (lost ≡ output.new.items)) }
@@ -52,6 +54,7 @@ impl ServedManager {
         ensures spots { length self.new.begun.spots ≡ length self.old.begun.spots }
         ensures config { self.new.manager.table.config ≡ self.old.manager.table.config }
         ensures options { self.new.options ≡ self.old.options }
+        ensures numbers { HasRoom self.new.manager numbers.new }
     {
         let named = said_of(self.options.connections, line);
         match named.said {
@@ -71,7 +74,7 @@ impl ServedManager {
                     request,
                     name: named.name,
                 };
-                let outcome = self.serve(heard, output, writer);
+                let outcome = self.serve(heard, numbers, output, writer);
                 outcome.and(Ok(false))
             }
         }
@@ -81,12 +84,14 @@ impl ServedManager {
     fn serve<W: Write>(
         &mut self,
         heard: Heard<'_, ClientRequest>,
+        numbers: &mut Numbers,
         output: &mut Output,
         writer: &mut W,
     ) -> Result<(), Fault>
         requires room { array_vec_len output.old + MAX_ANSWER ≤ OUTPUT_LEN }
         requires connection { aside_list heard.connection < length self.old.begun.lists }
         requires slots { self.old.manager.table.config.processes ≤ length self.old.begun.spots }
+        requires numbers { HasRoom self.old.manager numbers.old }
         requires short { length heard.name.now ≤ MAX_REQUEST }
         ensures serves { (text : List ℕ) × (lost : List ℕ) × IsLawfulHub (hub_of self.old) × Serves heard.entry.connection heard.entry.request heard.entry.name.now (hub_of self.old) text (hub_of self.new)
             × Writes (W.contents writer.old) (W.contents writer.new) (output.old.items ++ text) lost × OnOk result (lost ≡ output.new.items) }
@@ -95,12 +100,13 @@ impl ServedManager {
         ensures spots { length self.new.begun.spots ≡ length self.old.begun.spots }
         ensures config { self.new.manager.table.config ≡ self.old.manager.table.config }
         ensures options { self.new.options ≡ self.old.options }
+        ensures numbers { HasRoom self.new.manager numbers.new }
     {
         self.manager.keeps_laws();
         self.begun.keeps_laws();
         print_to(output, heard.connection);
         match permission_of(&self.begun, heard.connection, heard.request) {
-            Permission::Make => self.make(heard, output, writer),
+            Permission::Make => self.make(heard, numbers, output, writer),
             Permission::NoTransaction => {
                 print_line(output, b"refused no-transaction");
                 Ok(())

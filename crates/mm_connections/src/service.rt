@@ -21,10 +21,12 @@ use std::marker::Model;
 #[derive(Drop)]
 pub struct ConnectionService {
     served: ServedManager,
+    numbers: Numbers,
 }
 
 impl Model for ConnectionService {
     ghost use Rattle.std.specs.Prelude.{◌≡◌, ◌≤◌, ◌*◌, length};
+    ghost use Rattle.mm_service.specs.Holds.{HasRoom};
     ghost use Rattle.mm_connections.specs.Hub.{Hub};
     ghost use Rattle.mm_connections.specs.private.Served.{hub_of};
 
@@ -32,15 +34,15 @@ impl Model for ConnectionService {
 
     ghost view = { λ it. hub_of it.served };
 
-    ghost invariant = { λ it. (length it.served.begun.lists ≡ it.served.options.connections * 2) × (it.served.manager.table.config.processes ≤ length it.served.begun.spots) };
+    ghost invariant = { λ it. (length it.served.begun.lists ≡ it.served.options.connections * 2) × (it.served.manager.table.config.processes ≤ length it.served.begun.spots) × HasRoom it.served.manager it.numbers };
 }
 
 impl ConnectionService {
     /// Returns a service of this configuration for the connections below `options.connections`: no transaction is live, and nobody owns a name.
     /// Connection 0 is the operator's.
     ///
-    /// Refused as `LockManager::open` is. This is the one call that takes memory: that of the manager, 256 KiB, 16 bytes for each transaction
-    /// that can be live, and 12 for each connection. It is refused as `Memory` too if there are 2,147,483,648 connections or more.
+    /// Refused as `LockManager::open` is. This is the one call that takes memory: that of the manager, 4 bytes for each of `config.names`, 16
+    /// for each transaction that can be live, 12 for each connection, and 4 KiB. It is refused as `Memory` too if there are 2,147,483,648 connections or more.
     pub fn open(
         alloc: Global,
         config: ManagerConfig,
@@ -52,17 +54,17 @@ impl ConnectionService {
         ensures name_bytes { (result ≡ Err OpenError.NameBytes) ↔ (¬ IsTransactionsOut config × ¬ IsNamesOut config × IsNameBytesOut config) }
     {
         let manager = LockManager::open(alloc, config)?;
-        let numbers = Numbers::new(alloc)?;
+        let numbers = Numbers::new(alloc, config.names)?;
         let begun = Begun::new(alloc, options.connections, config.transactions)?;
         let counts = Counts::new(alloc, options.connections)?;
         Ok(ConnectionService {
             served: ServedManager {
                 manager,
-                numbers,
                 begun,
                 counts,
                 options,
             },
+            numbers,
         })
     }
 
@@ -117,7 +119,7 @@ impl Answerer for ConnectionService {
         output: &mut Output,
         writer: &mut W,
     ) -> Result<bool, ServiceFault> {
-        self.served.answer(line, output, writer)
+        self.served.answer(line, &mut self.numbers, output, writer)
     }
 
     ghost long = { answers_long };

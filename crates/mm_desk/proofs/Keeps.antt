@@ -6,6 +6,7 @@ use Rattle.mm_lists.specs.Members.{Among}
 use Rattle.mm_lists.proofs.Lemmas.Filter.{filter_gives, Among-without_other}
 use Rattle.mm_names.specs.Names.{name_of}
 use Rattle.mm_manager.specs.LockState.{LockState, IsLawful}
+use Rattle.mm_thin.specs.declared.worker.TheConstants.{RECORDS}
 use Rattle.mm_thin.specs.declared.views.Lent.{Lent}
 use Rattle.mm_thin.specs.declared.views.DeskView.{DeskView}
 use Rattle.mm_thin.specs.declared.spread.Spread.{Spread}
@@ -17,7 +18,7 @@ use Rattle.mm_thin.specs.declared.reply.Look.{Look}
 use Rattle.mm_thin.specs.declared.reply.Look.TheVariants.{NotFat, Fat, IsLent}
 use Rattle.mm_desk.specs.Books.{BooksState, names_in}
 use Rattle.mm_desk.specs.Desk.{DeskState, AreFat, IsAdopted, IsDesk}
-use Rattle.mm_desk.specs.Calls.{GrowsBy, NamesFade, OwnersStay, OthersStay, IsTakenOver, IsOffered, KeepsFat, FailsToAdopt, FailsToAdoptOne, RefusesBucket, RefusesOne, OwnAreFat, FattensOwn, HasNoNames, IsOver, KeepsManager, LoansEnd, NumberIsFree, NoLoansOf}
+use Rattle.mm_desk.specs.Calls.{GrowsBy, NamesFade, OwnersStay, OthersStay, IsTakenOver, IsOffered, KeepsFat, FailsToAdopt, HasNoNames, IsOver, KeepsManager, LoansEnd, NumberIsFree, NoLoansOf}
 use Rattle.mm_rules.specs.TableState.{is_live, owner_of}
 use Rattle.std.proofs.lemmas.Option.{same_Some}
 use Rattle.mm_lists.proofs.Lemmas.Set.{slice_get-set_other}
@@ -25,10 +26,8 @@ use Rattle.std.specs.Prelude.{Result, Ok, Err, IfOk, OnErr}
 use Rattle.mm_thin.specs.declared.config.WorkerError.{WorkerError}
 use Rattle.mm_thin.specs.Calls.{AddsWorker}
 use Rattle.mm_thin.specs.Parts.{WorkerState}
-use Rattle.mm_manager.specs.Calls.{TriesName}
+use Rattle.mm_manager.specs.Calls.{AdoptsName}
 use Rattle.mm_manager.specs.declared.refusal.Refusal.{Refusal}
-use Rattle.mm_desk.specs.declared.reply.Adopted.{Adopted}
-use Rattle.mm_desk.specs.declared.reply.Adopted.TheVariants as adopted
 use Rattle.mm_desk.proofs.Counts.{counted_name}
 
 -- ---- loans of a bucket
@@ -86,7 +85,7 @@ module _ (books : BooksState) (o : OfficeState) (keys : List Key) (lent_to : Lis
   -- ---- a thin name comes to the manager
 
   module _ (books' : BooksState) (spread : books'.spread ≡ books.spread) (o' : OfficeState) (of : o'.of ≡ o.of) (b number : ℕ) (name : List ℕ) (stay : OwnersStay books.manager books'.manager) (not_fat : Among b o.desk.fat → ⊥) where
-    pub desk_lent : o'.desk ≡ with_lent o.desk b number name → b < o.of.table.words → GrowsBy books.manager name books'.manager → IsTakenOver books' (slice_get keys (number / 10)) b name → IsDesk books' o' keys (set lent_to b number)
+    pub desk_lent : o'.desk ≡ with_lent o.desk b number name → b < o.of.table.words → GrowsBy books.manager name books'.manager → IsTakenOver books' (slice_get keys (number / RECORDS)) b name → IsDesk books' o' keys (set lent_to b number)
     desk_lent same low grows taken = remade books' spread o' of (set lent_to b number) (length-set lent_to b number)
         (λ n x named. subst (λ (d : DeskView). Among (bucket_by books'.spread x) d.fat) (sym same) (elim (grows n x named) [
           | inl it ↦ inl (ap (bucket_by books'.spread) it ∙ sym taken.0)
@@ -128,7 +127,7 @@ module _ (books : BooksState) (o : OfficeState) (keys : List Key) (lent_to : Lis
   -- ---- a name is handed over
 
   pub desk_unlocked : (books' : BooksState) → books'.spread ≡ books.spread → (k : Key) (name : List ℕ) → NamesFade books.manager books'.manager → OthersStay books.manager k name books'.manager
-      → ((l : Lent) → Among l o.desk.lent → l.bucket ≡ bucket_by o.of.spread name → slice_get keys (l.number / 10) ≡ Some k → ⊥) → IsDesk books' o keys lent_to
+      → ((l : Lent) → Among l o.desk.lent → l.bucket ≡ bucket_by o.of.spread name → slice_get keys (l.number / RECORDS) ≡ Some k → ⊥) → IsDesk books' o keys lent_to
   desk_unlocked books' spread k name fade stay others = remade books' spread o refl lent_to refl (λ n x named. fat_before books' spread o refl n x (fade n x named)) (λ l among.
       let a = is.adopted l among in
       record {
@@ -196,7 +195,7 @@ desk_more books o o' keys lent_to is (Err error) added refused = subst (λ (x : 
 
 module _ (books : BooksState) (o : OfficeState) (keys : List Key) (lent_to : List ℕ) (is : IsDesk books o keys lent_to) where
   -- a transaction ends to whose worker nothing is lent
-  pub desk_ended : (books' : BooksState) → books'.spread ≡ books.spread → (k : Key) → IsOver books.manager k books'.manager → ((l : Lent) → Among l o.desk.lent → slice_get keys (l.number / 10) ≡ Some k → ⊥) → IsDesk books' o keys lent_to
+  pub desk_ended : (books' : BooksState) → books'.spread ≡ books.spread → (k : Key) → IsOver books.manager k books'.manager → ((l : Lent) → Among l o.desk.lent → slice_get keys (l.number / RECORDS) ≡ Some k → ⊥) → IsDesk books' o keys lent_to
   desk_ended books' spread k over loans = remade books o keys lent_to is books' spread o refl lent_to refl (λ n x named. fat_before books o keys lent_to is books' spread o refl n x (over.fade n x named)) (λ l among.
       let a = is.adopted l among in
       record {
@@ -210,14 +209,6 @@ module _ (books : BooksState) (o : OfficeState) (keys : List Key) (lent_to : Lis
 pub keeps_both : (a b c : DeskState) → KeepsFat a b → KeepsFat b c → KeepsFat a c
 keeps_both a b c first second = record { of = second.of ∙ first.of; keys = second.keys ∙ first.keys; fat = λ k among. second.fat k (first.fat k among); stay = λ h x owns. second.stay h x (first.stay h x owns) }
 
-pub fat_still : (a b : DeskState) (name : List ℕ) → KeepsFat a b → Among (bucket_by a.office.of.spread name) a.office.desk.fat → Among (bucket_by b.office.of.spread name) b.office.desk.fat
-fat_still a b name keeps among = subst (λ (o : Opening). Among (bucket_by o.spread name) b.office.desk.fat) (sym keeps.of) (keeps.fat (bucket_by a.office.of.spread name) among)
-
-pub fattens_still : (w : WorkerState) (a : Adopted) (mid new : DeskState) → OwnAreFat w mid → KeepsFat mid new → FattensOwn w a new
-fattens_still w adopted.Fat mid new own keeps = λ k r at taken. fat_still mid new r.name keeps (own k r at taken)
-fattens_still w adopted.Changed mid new own keeps = tt
-fattens_still w (adopted.Refused refusal) mid new own keeps = tt
-
 -- ---- why a bucket was not made fat
 
 pub not_adopted : (books books' : BooksState) (o : OfficeState) (keys : List Key) (at bucket : ℕ) (name : List ℕ) (refusal : Refusal) (new : DeskState) → books.spread ≡ o.of.spread → new.manager ≡ books'.manager
@@ -225,25 +216,14 @@ pub not_adopted : (books books' : BooksState) (o : OfficeState) (keys : List Key
 not_adopted books books' o keys at bucket name refusal new spread same (inl other) = inl other
 not_adopted books books' o keys at bucket name refusal new spread same (inr (inl none)) = inr (inl none)
 not_adopted books books' o keys at bucket name refusal new spread same (inr (inr tried)) =
-    inr (inr (tried.0, at, name, tried.1, tried.2 ∙ ap (λ (s : Spread). bucket_by s name) spread, subst (λ (m : LockState). TriesName books.manager tried.0 name (Err refusal) m) (sym same) tried.3))
-
-pub keeps_none : (a : DeskState) → KeepsFat a a
-keeps_none a = record { of = refl; keys = refl; fat = λ b among. among; stay = λ h x owns. owns }
-
-pub refuses_later : (old mid : DeskState) (bucket : ℕ) (a : Adopted) (new : DeskState) → KeepsFat old mid → RefusesBucket mid bucket a new → RefusesOne old a new
-refuses_later old mid bucket adopted.Fat new keeps why = tt
-refuses_later old mid bucket adopted.Changed new keeps why = tt
-refuses_later old mid bucket (adopted.Refused refusal) new keeps why = (mid, keeps, (bucket, why))
-
-pub refuses_after : (old mid : DeskState) (refusal : Refusal) (new : DeskState) → KeepsFat old mid → FailsToAdoptOne mid refusal new → FailsToAdoptOne old refusal new
-refuses_after old mid refusal new keeps why = (why.0, keeps_both old mid why.0 keeps why.1, why.2)
+    inr (inr (tried.0, at, name, tried.1, tried.2 ∙ ap (λ (s : Spread). bucket_by s name) spread, subst (λ (m : LockState). AdoptsName books.manager tried.0 name (Err refusal) m) (sym same) tried.3))
 
 pub same_both : (a b c : DeskState) → KeepsManager a b → KeepsManager b c → KeepsManager a c
 same_both a b c first second = record { of = second.of ∙ first.of; keys = second.keys ∙ first.keys; manager = second.manager ∙ first.manager }
 
 pub free_still : (a b : DeskState) (k : Key) (n : ℕ) → KeepsManager a b → LoansEnd a b → NumberIsFree a k n → NumberIsFree b k n
 free_still a b k n keeps fewer free name named l among at is =
-    free name (ap (λ (m : LockState). name_of m.names n) (sym keeps.manager) ∙ named) l (fewer l among) (at ∙ ap (λ (x : Opening). bucket_by x.spread name) keeps.of) (ap (λ ks. slice_get ks (l.number / 10)) (sym keeps.keys) ∙ is)
+    free name (ap (λ (m : LockState). name_of m.names n) (sym keeps.manager) ∙ named) l (fewer l among) (at ∙ ap (λ (x : Opening). bucket_by x.spread name) keeps.of) (ap (λ ks. slice_get ks (l.number / RECORDS)) (sym keeps.keys) ∙ is)
 
 -- nothing is lent to the worker of a transaction if no bucket of its names is
 pub no_loans : (books : BooksState) (o : OfficeState) (keys : List Key) (lent_to : List ℕ) → IsDesk books o keys lent_to → (k : Key) (numbers : List ℕ) → ((n : ℕ) → Among n numbers ↔ (owner_of books.manager.table n ≡ Some k))
@@ -256,7 +236,7 @@ no_loans books o keys lent_to is k numbers owned free l among at =
 
 -- a worker to whom nothing is lent gets another transaction
 pub desk_renewed : (books books' : BooksState) (o : OfficeState) (keys : List Key) (lent_to : List ℕ) → IsDesk books o keys lent_to → books'.spread ≡ books.spread → NamesFade books.manager books'.manager → OwnersStay books.manager books'.manager
-    → (at : ℕ) (key next : Key) → slice_get keys at ≡ Some key → ((l : Lent) → Among l o.desk.lent → slice_get keys (l.number / 10) ≡ Some key → ⊥) → IsDesk books' o (set keys at next) lent_to
+    → (at : ℕ) (key next : Key) → slice_get keys at ≡ Some key → ((l : Lent) → Among l o.desk.lent → slice_get keys (l.number / RECORDS) ≡ Some key → ⊥) → IsDesk books' o (set keys at next) lent_to
 desk_renewed books books' o keys lent_to is spread fade stay at key next ended loans =
     let mid = desk_cancelled books o keys lent_to is books' spread fade stay in
     record {
@@ -266,13 +246,13 @@ desk_renewed books books' o keys lent_to is spread fade stay at key next ended l
       fat = mid.fat;
       adopted = λ l among.
           let a = mid.adopted l among in
-          let apart : l.number / 10 ≢ at = λ same. loans l among (ap (slice_get keys) same ∙ ended) in
-          record { bucket = a.bucket; listed = a.listed; owned = (a.owned.0, slice_get-set_other keys (l.number / 10) at next apart ∙ a.owned.1, a.owned.2) };
+          let apart : l.number / RECORDS ≢ at = λ same. loans l among (ap (slice_get keys) same ∙ ended) in
+          record { bucket = a.bucket; listed = a.listed; owned = (a.owned.0, slice_get-set_other keys (l.number / RECORDS) at next apart ∙ a.owned.1, a.owned.2) };
     }
 
 -- nothing is lent to the worker of a transaction that is not live
 pub dead_unlent : (books : BooksState) (o : OfficeState) (keys : List Key) (lent_to : List ℕ) → IsDesk books o keys lent_to → IsLawful books.manager → (key : Key) → is_live books.manager.table key ≡ false
-    → (l : Lent) → Among l o.desk.lent → slice_get keys (l.number / 10) ≡ Some key → ⊥
+    → (l : Lent) → Among l o.desk.lent → slice_get keys (l.number / RECORDS) ≡ Some key → ⊥
 dead_unlent books o keys lent_to is lawful key dead l among at =
     let a = is.adopted l among in
     let owner = a.owned.2.2 ∙ ap Some (same_Some a.owned.0 key (sym a.owned.1 ∙ at)) in

@@ -8,7 +8,7 @@ use Rattle.mm_arena.specs.declared.key.Key.{Key}
 use Rattle.mm_names.specs.Names.{NameTable, name_of, Interns}
 use Rattle.mm_rules.specs.TableState.{owner_of}
 use Rattle.mm_manager.specs.LockState.{LockState, Owns, IsUnowned, KeepOwned, IsLawful, untold}
-use Rattle.mm_manager.specs.Calls.{Gets, TriesName, Tries, LocksName, Requests, Unlocks, UnlocksName, Ends, LosesName, Passes, Cancels, Begins, Commits, Aborts}
+use Rattle.mm_manager.specs.Calls.{AdoptsName, AdoptsNumber, Gets, TriesName, Tries, LocksName, Requests, Unlocks, UnlocksName, Ends, LosesName, Passes, Cancels, Begins, Commits, Aborts}
 use Rattle.mm_manager.specs.Reads.{HasStatus}
 use Rattle.mm_manager.specs.declared.reply.Status.{Status}
 use Rattle.mm_rules.specs.TableState.{TableState, is_live}
@@ -52,7 +52,7 @@ module _ (m : LockState) (lawful : IsLawful m) where
     within (x ∷ xs) (suc n) name is = (let low = within xs n name is in omega arith)
 
   -- the counts are small
-  pub small_count : (spread : Spread) (counts : List ℕ) (b : ℕ) → AreCounted spread m.names.names counts → b < spread.buckets → slice_index counts b ≤ 65536
+  pub small_count : (spread : Spread) (counts : List ℕ) (b : ℕ) → AreCounted spread m.names.names counts → b < spread.buckets → slice_index counts b ≤ 16777216
   small_count spread counts b counted low = (let few_names = few spread b m.names.names in let most = lawful.names.in_range.numbers.1 in let is = counted.1 b low in omega arith)
 
   module _ (spread : Spread) (counts : List ℕ) (counted : AreCounted spread m.names.names counts) (name : List ℕ) (b : ℕ) (bucket : b ≡ bucket_by spread name) (low : b < spread.buckets) where
@@ -81,27 +81,14 @@ grows_interned t name m named (inr new) n x is = elim (cases_eq n m) [
 untold_names : (old new : LockState) → new ≡ untold old → new.names ≡ old.names
 untold_names old new same = ap (λ (m : LockState). m.names) same
 
-pub tried_grows : (old : LockState) (k : Key) (name : List ℕ) (answer : Result TryLock Refusal) (new : LockState) → TriesName old k name answer new
-    → IfOk answer (λ a. Tries old.table old.names k name a new.table new.names) → GrowsBy old name new
-tried_grows old k name (Ok tried.Granted) new tries step n x is = grows_interned old.names name step.0 new.names step.1 n x is
-tried_grows old k name (Ok tried.Held) new tries step n x is = grows_same old new name (untold_names old new tries.1) n x is
-tried_grows old k name (Ok (tried.Busy h)) new tries step n x is = grows_same old new name (untold_names old new tries.2) n x is
-tried_grows old k name (Err refusal) new tries step n x is = grows_same old new name (untold_names old new tries.0) n x is
-
 stays_told : (old new : LockState) → new ≡ untold old → OwnersStay old new
 stays_told old new same h x owns = subst (λ (m : LockState). Owns m h x) (sym same) owns
 
 gets_stay : (old : LockState) (k : Key) (name : List ℕ) (new : LockState) → Gets old k name new → OwnersStay old new
 gets_stay old k name new gets h x owns = (gets.others h x (λ same. gets.free h (subst (Owns old h) same owns))).1 owns
 
-pub tried_stay : (old : LockState) (k : Key) (name : List ℕ) (answer : Result TryLock Refusal) (new : LockState) → TriesName old k name answer new → OwnersStay old new
-tried_stay old k name (Ok tried.Granted) new tries h x owns = gets_stay old k name new tries h x owns
-tried_stay old k name (Ok tried.Held) new tries h x owns = stays_told old new tries.1 h x owns
-tried_stay old k name (Ok (tried.Busy g)) new tries h x owns = stays_told old new tries.2 h x owns
-tried_stay old k name (Err refusal) new tries h x owns = stays_told old new tries.0 h x owns
-
 pub locked_grows : (old : LockState) (k : Key) (name : List ℕ) (answer : Result Lock Refusal) (new : LockState) → LocksName old k name answer new
-    → IfOk answer (λ a. Requests old.table old.names k name a new.table new.names) → GrowsBy old name new
+    → IfOk answer (λ a. Requests old.table old.names old.totals k name a new.table new.names) → GrowsBy old name new
 locked_grows old k name (Ok lock.Granted) new locks step n x is = grows_interned old.names name step.0 new.names step.1 n x is
 locked_grows old k name (Ok lock.Held) new locks step n x is = grows_same old new name (untold_names old new locks.1) n x is
 locked_grows old k name (Ok (lock.Waits h)) new locks step n x is = grows_interned old.names name step.1.0 new.names step.1.1 n x is
@@ -122,17 +109,8 @@ interned_same : (t : NameTable) (name : List ℕ) (n m : ℕ) (named : NameTable
 interned_same t name n m named is (inl old) = old.1
 interned_same t name n m named is (inr new) = absurd (new.0 (m, is))
 
-abbrev pub IsTryGranted : Result TryLock Refusal → Type 0
-IsTryGranted answer = answer ≡ Ok tried.Granted
-
-pub tried_same : (old : LockState) (k : Key) (name : List ℕ) (answer : Result TryLock Refusal) (new : LockState) → TriesName old k name answer new → (IsTryGranted answer → ⊥) → new.names ≡ old.names
-tried_same old k name (Ok tried.Granted) new tries not_granted = absurd (not_granted refl)
-tried_same old k name (Ok tried.Held) new tries not_granted = untold_names old new tries.1
-tried_same old k name (Ok (tried.Busy h)) new tries not_granted = untold_names old new tries.2
-tried_same old k name (Err refusal) new tries not_granted = untold_names old new tries.0
-
 pub locked_same : (old : LockState) (k : Key) (name : List ℕ) (answer : Result Lock Refusal) (new : LockState) → LocksName old k name answer new
-    → IfOk answer (λ a. Requests old.table old.names k name a new.table new.names) → (answer ≡ Ok lock.Granted → ⊥) → new.names ≡ old.names
+    → IfOk answer (λ a. Requests old.table old.names old.totals k name a new.table new.names) → (answer ≡ Ok lock.Granted → ⊥) → new.names ≡ old.names
 locked_same old k name (Ok lock.Granted) new locks step not_granted = absurd (not_granted refl)
 locked_same old k name (Ok lock.Held) new locks step not_granted = untold_names old new locks.1
 locked_same old k name (Ok (lock.Waits h)) new locks step not_granted = interned_same old.names name step.1.0 locks.0.holder.0 new.names locks.0.holder.1 step.1.1
@@ -140,20 +118,55 @@ locked_same old k name (Ok (lock.Deadlock h)) new locks step not_granted = ap (�
 locked_same old k name (Err refusal) new locks step not_granted = untold_names old new locks.0
 
 -- a grant is of a name that nobody owned, which has a number from now on
-pub try_granted : (old : LockState) (k : Key) (name : List ℕ) (answer : Result TryLock Refusal) (new : LockState) → TriesName old k name answer new
-    → IfOk answer (λ a. Tries old.table old.names k name a new.table new.names) → answer ≡ Ok tried.Granted → IsUnowned old name × ((n : ℕ) × Interns old.names name n new.names)
-try_granted old k name (Ok tried.Granted) new tries step is = (tries.free, (step.0, step.1))
-try_granted old k name (Ok tried.Held) new tries step is = absurd (cc)
-try_granted old k name (Ok (tried.Busy h)) new tries step is = absurd (cc)
-try_granted old k name (Err refusal) new tries step is = absurd (cc)
-
 pub lock_granted : (old : LockState) (k : Key) (name : List ℕ) (answer : Result Lock Refusal) (new : LockState) → LocksName old k name answer new
-    → IfOk answer (λ a. Requests old.table old.names k name a new.table new.names) → answer ≡ Ok lock.Granted → IsUnowned old name × ((n : ℕ) × Interns old.names name n new.names)
+    → IfOk answer (λ a. Requests old.table old.names old.totals k name a new.table new.names) → answer ≡ Ok lock.Granted → IsUnowned old name × ((n : ℕ) × Interns old.names name n new.names)
 lock_granted old k name (Ok lock.Granted) new locks step is = (locks.free, (step.0, step.1))
 lock_granted old k name (Ok lock.Held) new locks step is = absurd (cc)
 lock_granted old k name (Ok (lock.Waits h)) new locks step is = absurd (cc)
 lock_granted old k name (Ok (lock.Deadlock h)) new locks step is = absurd (cc)
 lock_granted old k name (Err refusal) new locks step is = absurd (cc)
+
+-- ---- a try and an adoption
+
+abbrev pub IsTryGranted : Result TryLock Refusal → Type 0
+IsTryGranted answer = answer ≡ Ok tried.Granted
+
+-- a grant is of a name that nobody owned, which has a number from now on; by any other answer the names stay
+pub record IsBooked (old : LockState) (name : List ℕ) (answer : Result TryLock Refusal) (new : LockState) : Type 0 where
+  pub granted : IsTryGranted answer → IsUnowned old name × ((n : ℕ) × Interns old.names name n new.names)
+  pub same : (IsTryGranted answer → ⊥) → new.names ≡ old.names
+  pub grows : GrowsBy old name new
+  pub stay : OwnersStay old new
+
+granted_booked : (old : LockState) (k : Key) (name : List ℕ) (new : LockState) → Gets old k name new → (n : ℕ) → Interns old.names name n new.names → IsBooked old name (Ok tried.Granted) new
+granted_booked old k name new gets n interns = record {
+  granted = λ is. (gets.free, (n, interns));
+  same = λ not_granted. absurd (not_granted refl);
+  grows = λ m x is. grows_interned old.names name n new.names interns m x is;
+  stay = λ h x owns. gets_stay old k name new gets h x owns;
+}
+
+untold_booked : (old : LockState) (name : List ℕ) (answer : Result TryLock Refusal) (new : LockState) → (IsTryGranted answer → ⊥) → new ≡ untold old → IsBooked old name answer new
+untold_booked old name answer new not_granted same = record {
+  granted = λ is. absurd (not_granted is);
+  same = λ _. untold_names old new same;
+  grows = λ n x is. grows_same old new name (untold_names old new same) n x is;
+  stay = λ h x owns. stays_told old new same h x owns;
+}
+
+pub tried_booked : (old : LockState) (k : Key) (name : List ℕ) (answer : Result TryLock Refusal) (new : LockState) → TriesName old k name answer new
+    → IfOk answer (λ a. Tries old.table old.names k name a new.table new.names) → IsBooked old name answer new
+tried_booked old k name (Ok tried.Granted) new tries step = granted_booked old k name new tries step.0 step.1
+tried_booked old k name (Ok tried.Held) new tries step = untold_booked old name (Ok tried.Held) new (λ is. cc) tries.1
+tried_booked old k name (Ok (tried.Busy h)) new tries step = untold_booked old name (Ok (tried.Busy h)) new (λ is. cc) tries.2
+tried_booked old k name (Err refusal) new tries step = untold_booked old name (Err refusal) new (λ is. cc) tries.0
+
+pub adopted_booked : (old : LockState) (k : Key) (name : List ℕ) (answer : Result TryLock Refusal) (new : LockState) → AdoptsName old k name answer new
+    → IfOk answer (λ a. AdoptsNumber old.table old.names k name a new.table new.names) → IsBooked old name answer new
+adopted_booked old k name (Ok tried.Granted) new adopts step = granted_booked old k name new adopts step.0 step.1
+adopted_booked old k name (Ok tried.Held) new adopts step = untold_booked old name (Ok tried.Held) new (λ is. cc) adopts.1
+adopted_booked old k name (Ok (tried.Busy h)) new adopts step = untold_booked old name (Ok (tried.Busy h)) new (λ is. cc) adopts.2
+adopted_booked old k name (Err refusal) new adopts step = untold_booked old name (Err refusal) new (λ is. cc) adopts.0
 
 -- ---- names that are handed over, or free
 

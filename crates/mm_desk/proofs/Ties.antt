@@ -6,6 +6,7 @@ use Rattle.mm_arena.specs.declared.key.Key.{Key}
 use Rattle.mm_lists.specs.Members.{Among}
 use Rattle.mm_rules.specs.TableState.{owner_of}
 use Rattle.mm_manager.specs.LockState.{LockState, Owns, IsLawful}
+use Rattle.mm_thin.specs.declared.worker.TheConstants.{RECORDS}
 use Rattle.mm_thin.specs.declared.views.RecordView.{RecordView}
 use Rattle.mm_thin.specs.declared.spread.Spread.{Spread}
 use Rattle.mm_thin.specs.Spread.{bucket_by}
@@ -21,7 +22,7 @@ owns_once m lawful name k h one other =
     let same : one.0 ≡ other.0 = lawful.names.distinct one.0 other.0 name one.1 other.1 in
     same_Some k h (sym one.2 ∙ ap (owner_of m.table) same ∙ other.2)
 
-worker_of : (at n : ℕ) → IsOfWorker at n → n / 10 ≡ at
+worker_of : (at n : ℕ) → IsOfWorker at n → n / RECORDS ≡ at
 worker_of at n is = (let low = is.0 in let high = is.1 in omega arith)
 
 module _ (books : BooksState) (o : OfficeState) (keys : List Key) (lent_to : List ℕ) (is : IsDesk books o keys lent_to) (lawful : IsLawful books.manager) (at : ℕ) (r : RecordView)

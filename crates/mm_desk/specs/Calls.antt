@@ -6,15 +6,15 @@ use Rattle.mm_lists.specs.Members.{Among, NoRepeat}
 use Rattle.mm_manager.specs.LockState.{LockState, Owns}
 use Rattle.mm_rules.specs.TableState.{is_live, owner_of}
 use Rattle.mm_manager.specs.Permit.{may_name}
-use Rattle.mm_manager.specs.Calls.{Aborts, Begins, Commits, LocksName, TriesName, UnlocksName, Cancels}
+use Rattle.mm_manager.specs.Calls.{Aborts, AdoptsName, Begins, Commits, LocksName, TriesName, UnlocksName, Cancels}
 use Rattle.mm_manager.specs.declared.reply.Lock.{Lock}
 use Rattle.mm_manager.specs.declared.reply.Lock.TheVariants as lock
 use Rattle.mm_manager.specs.declared.reply.TryLock.{TryLock}
 use Rattle.mm_manager.specs.declared.reply.TryLock.TheVariants as trylock
 use Rattle.mm_desk.specs.declared.reply.Tried.{Tried}
 use Rattle.mm_desk.specs.declared.reply.Tried.TheVariants as tries
+use Rattle.mm_thin.specs.declared.worker.TheConstants.{RECORDS}
 use Rattle.mm_thin.specs.declared.views.RecordView.{RecordView}
-use Rattle.mm_thin.specs.Parts.{WorkerState}
 use Rattle.mm_desk.specs.declared.reply.Asked.{Asked}
 use Rattle.mm_desk.specs.declared.reply.Asked.TheVariants.{Granted, Held, Waits, Deadlock, Again}
 use Rattle.mm_manager.specs.declared.refusal.Refusal.{Refusal}
@@ -53,7 +53,7 @@ IsTakenOver books key bucket name = (bucket ≡ bucket_by books.spread name) × 
 -- the name is not of this bucket, or there is no transaction of this key, or the manager refuses the name
 abbrev pub IsOffered : BooksState → Option Key → ℕ → List ℕ → Refusal → BooksState → Type 0
 IsOffered old key bucket name refusal new =
-    (refusal ≡ NotOwner) ⊎ (refusal ≡ NoTransaction) ⊎ ((k : Key) × (key ≡ Some k) × (bucket ≡ bucket_by old.spread name) × TriesName old.manager k name (Err refusal) new.manager)
+    (refusal ≡ NotOwner) ⊎ (refusal ≡ NoTransaction) ⊎ ((k : Key) × (key ≡ Some k) × (bucket ≡ bucket_by old.spread name) × AdoptsName old.manager k name (Err refusal) new.manager)
 
 -- what is fat stays fat, and owners stay; nothing else that a caller sees changes but the manager
 pub record KeepsFat (old new : DeskState) : Type 0 where
@@ -72,7 +72,7 @@ AdoptsBucket bucket (Refused refusal) new = Unit {0}
 abbrev pub FailsToAdopt : DeskState → ℕ → Refusal → DeskState → Type 0
 FailsToAdopt old bucket refusal new =
     (refusal ≡ NotOwner) ⊎ (refusal ≡ NoTransaction)
-    ⊎ ((k : Key) × (at : ℕ) × (name : List ℕ) × (slice_get old.keys at ≡ Some k) × (bucket ≡ bucket_by old.office.of.spread name) × TriesName old.manager k name (Err refusal) new.manager)
+    ⊎ ((k : Key) × (at : ℕ) × (name : List ℕ) × (slice_get old.keys at ≡ Some k) × (bucket ≡ bucket_by old.office.of.spread name) × AdoptsName old.manager k name (Err refusal) new.manager)
 
 -- why a bucket was not made fat
 abbrev pub RefusesBucket : DeskState → ℕ → Adopted → DeskState → Type 0
@@ -93,11 +93,11 @@ RefusesOne old (Refused refusal) new = FailsToAdoptOne old refusal new
 
 -- no loan of a bucket is to a worker whose transaction has this key
 abbrev pub LoansAreOthers : DeskState → ℕ → Key → Type 0
-LoansAreOthers d bucket k = (l : Lent) → Among l d.office.desk.lent → l.bucket ≡ bucket → slice_get d.keys (l.number / 10) ≡ Some k → ⊥
+LoansAreOthers d bucket k = (l : Lent) → Among l d.office.desk.lent → l.bucket ≡ bucket → slice_get d.keys (l.number / RECORDS) ≡ Some k → ⊥
 
 -- a bucket is lent to a worker whose transaction has this key
 abbrev pub IsLentTo : DeskState → ℕ → Key → Type 0
-IsLentTo d bucket k = (l : Lent) × Among l d.office.desk.lent × (l.bucket ≡ bucket) × (slice_get d.keys (l.number / 10) ≡ Some k)
+IsLentTo d bucket k = (l : Lent) × Among l d.office.desk.lent × (l.bucket ≡ bucket) × (slice_get d.keys (l.number / RECORDS) ≡ Some k)
 
 -- the manager and the keys stay
 pub record KeepsManager (old new : DeskState) : Type 0 where
@@ -114,20 +114,6 @@ UnlocksAt old at name (Err refusal) new =
     ⊎ ((k : Key) × (slice_get old.keys at ≡ Some k) × UnlocksName old.manager k name (Err refusal) new.manager × (new.keys ≡ old.keys))
 
 -- ---- a request
-
--- the bucket of each name that the worker has taken is fat
-abbrev pub OwnAreFat : WorkerState → DeskState → Type 0
-OwnAreFat w d = (k : ℕ) (r : RecordView) → slice_get w.records k ≡ Some r → r.taken ≢ [] → Among (bucket_by d.office.of.spread r.name) d.office.desk.fat
-
-abbrev pub FattensOwn : WorkerState → Adopted → DeskState → Type 0
-FattensOwn w Fat new = OwnAreFat w new
-FattensOwn w Changed new = Unit {0}
-FattensOwn w (Refused refusal) new = Unit {0}
-
-abbrev pub FattensOne : WorkerState → ℕ → Adopted → DeskState → Type 0
-FattensOne w k Fat new = (r : RecordView) → slice_get w.records k ≡ Some r → r.taken ≢ [] → Among (bucket_by new.office.of.spread r.name) new.office.desk.fat
-FattensOne w k Changed new = Unit {0}
-FattensOne w k (Refused refusal) new = Unit {0}
 
 -- the same answer as the manager's
 abbrev pub asked_of : Result Lock Refusal → Result Asked Refusal
@@ -152,15 +138,23 @@ FreesIfRefused asked (Err refusal) new = KeepsManager asked new
 abbrev pub RefusesName : {T : Type 0} → DeskState → List ℕ → Result T Refusal → DeskState → Type 0
 RefusesName old name answer new = (refusal : Refusal) × (may_name old.manager.names.name_bytes name ≡ Err refusal) × (answer ≡ Err refusal) × (new ≡ old)
 
--- the request comes after all that the worker had taken was made fat, so who waits then owns nothing thinly; or a bucket could not be made fat, and nothing is asked for
-abbrev pub AsksNamed : DeskState → WorkerState → List ℕ → Result Asked Refusal → DeskState → Type 0
-AsksNamed old w name answer new =
-    ((mid : DeskState) × KeepsFat old mid × OwnAreFat w mid × ((asked : DeskState) × RequestsAt mid w.at name answer asked × (asked.office ≡ mid.office) × (asked.keys ≡ mid.keys) × FreesIfRefused asked answer new))
-    ⊎ (KeepsFat old new × ((answer ≡ Ok Again) ⊎ ((refusal : Refusal) × (answer ≡ Err refusal) × FailsToAdoptOne old refusal new)))
+-- what is thin in the name's bucket was handed to the manager
+abbrev pub Fattens : DeskState → List ℕ → DeskState → Type 0
+Fattens old name new = KeepsFat old new × Among (bucket_by old.office.of.spread name) new.office.desk.fat
+
+-- the name's bucket could not be made fat
+abbrev pub FailsToFatten : DeskState → List ℕ → Refusal → DeskState → Type 0
+FailsToFatten old name refusal new = FailsToAdopt old (bucket_by old.office.of.spread name) refusal new
+
+-- the request comes after the name's bucket was made fat; or that could not be done, and nothing is asked for
+abbrev pub AsksNamed : DeskState → ℕ → List ℕ → Result Asked Refusal → DeskState → Type 0
+AsksNamed old at name answer new =
+    ((mid : DeskState) × Fattens old name mid × ((asked : DeskState) × RequestsAt mid at name answer asked × (asked.office ≡ mid.office) × (asked.keys ≡ mid.keys) × FreesIfRefused asked answer new))
+    ⊎ (KeepsFat old new × ((answer ≡ Ok Again) ⊎ ((refusal : Refusal) × (answer ≡ Err refusal) × FailsToFatten old name refusal new)))
 
 -- these bytes can be no name; or they are asked for
-abbrev pub AsksAt : DeskState → WorkerState → List ℕ → Result Asked Refusal → DeskState → Type 0
-AsksAt old w name answer new = RefusesName old name answer new ⊎ ((may_name old.manager.names.name_bytes name ≡ Ok tt) × AsksNamed old w name answer new)
+abbrev pub AsksAt : DeskState → ℕ → List ℕ → Result Asked Refusal → DeskState → Type 0
+AsksAt old at name answer new = RefusesName old name answer new ⊎ ((may_name old.manager.names.name_bytes name ≡ Ok tt) × AsksNamed old at name answer new)
 
 -- ---- a try
 
@@ -180,8 +174,8 @@ AttemptsAt old at name answer new =
 -- the try comes after the name's bucket was made fat; or that could not be done, and nothing is asked for
 abbrev pub TriesNamed : DeskState → ℕ → List ℕ → Result Tried Refusal → DeskState → Type 0
 TriesNamed old at name answer new =
-    ((mid : DeskState) × KeepsFat old mid × ((asked : DeskState) × AttemptsAt mid at name answer asked × (asked.office ≡ mid.office) × (asked.keys ≡ mid.keys) × FreesIfRefused asked answer new))
-    ⊎ (KeepsFat old new × ((answer ≡ Ok tries.Again) ⊎ ((refusal : Refusal) × (answer ≡ Err refusal) × FailsToAdopt old (bucket_by old.office.of.spread name) refusal new)))
+    ((mid : DeskState) × Fattens old name mid × ((asked : DeskState) × AttemptsAt mid at name answer asked × (asked.office ≡ mid.office) × (asked.keys ≡ mid.keys) × FreesIfRefused asked answer new))
+    ⊎ (KeepsFat old new × ((answer ≡ Ok tries.Again) ⊎ ((refusal : Refusal) × (answer ≡ Err refusal) × FailsToFatten old name refusal new)))
 
 -- these bytes can be no name; or they are tried
 abbrev pub TriesAt : DeskState → ℕ → List ℕ → Result Tried Refusal → DeskState → Type 0
@@ -228,7 +222,7 @@ pub record IsOver (old : LockState) (k : Key) (new : LockState) : Type 0 where
 
 -- no bucket is lent to a worker whose transaction has this key
 abbrev pub NoLoansOf : DeskState → Key → Type 0
-NoLoansOf d k = (l : Lent) → Among l d.office.desk.lent → slice_get d.keys (l.number / 10) ≡ Some k → ⊥
+NoLoansOf d k = (l : Lent) → Among l d.office.desk.lent → slice_get d.keys (l.number / RECORDS) ≡ Some k → ⊥
 
 -- what is lent was lent
 abbrev pub LoansEnd : DeskState → DeskState → Type 0

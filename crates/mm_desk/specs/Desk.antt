@@ -4,6 +4,7 @@ use Rattle.mm_arena.specs.declared.key.Key.{Key}
 use Rattle.mm_lists.specs.Members.{Among}
 use Rattle.mm_names.specs.Names.{name_of}
 use Rattle.mm_manager.specs.LockState.{LockState, Owns}
+use Rattle.mm_thin.specs.declared.worker.TheConstants.{RECORDS}
 use Rattle.mm_thin.specs.declared.views.Lent.{Lent}
 use Rattle.mm_thin.specs.declared.views.DeskView.{DeskView}
 use Rattle.mm_thin.specs.Spread.{bucket_by}
@@ -23,7 +24,7 @@ AreFat books d = (n : ℕ) (name : List ℕ) → name_of books.manager.names n �
 pub record IsAdopted (books : BooksState) (keys : List Key) (lent_to : List ℕ) (l : Lent) : Type 0 where
   pub bucket : l.bucket ≡ bucket_by books.spread l.name
   pub listed : slice_index lent_to l.bucket ≡ l.number
-  pub owned : (k : Key) × (slice_get keys (l.number / 10) ≡ Some k) × Owns books.manager k l.name
+  pub owned : (k : Key) × (slice_get keys (l.number / RECORDS) ≡ Some k) × Owns books.manager k l.name
 
 -- what holds of any desk
 pub record IsDesk (books : BooksState) (o : OfficeState) (keys : List Key) (lent_to : List ℕ) : Type 0 where

@@ -7,7 +7,7 @@ use crate::books::Books;
 use crate::desk::Desk;
 use crate::reply::Adopted;
 use mm_manager::{Key, Refusal, TryLock};
-use mm_thin::Got;
+use mm_thin::{Got, RECORDS};
 
 impl Desk {
     /// Makes a bucket fat. If it was thin, its name is owned from now on in the manager, by the transaction of the worker that had taken it.
@@ -44,12 +44,12 @@ impl Desk {
 
 /// The key of the transaction of the worker that has this record.
 fn key_of_record(keys: &Vec<Key>, number: u32) -> Option<Key>
-    ensures { result ≡ slice_get keys.now.items (number / 10) }
+    ensures { result ≡ slice_get keys.now.items (number / RECORDS) }
 {
-    keys.get(number as usize / 10).copied()
+    keys.get(number as usize / RECORDS).copied()
 }
 
-/// Asks the manager for the name of a bucket that was thin, for the transaction of the worker that had taken it.
+/// Makes the transaction of the worker that had taken a thin bucket the owner of its name in the manager, also if it waits.
 ///
 /// Refused as the manager refuses; as `NotOwner` also if the name is of another bucket or is owned by another, which does not happen.
 fn offer(books: &mut Books, key: Option<Key>, bucket: usize, name: &[u8]) -> Result<(), Refusal>
@@ -66,7 +66,7 @@ fn offer(books: &mut Books, key: Option<Key>, bucket: usize, name: &[u8]) -> Res
     let Some(key) = key else {
         return Err(Refusal::NoTransaction);
     };
-    match books.try_lock(key, name) {
+    match books.adopt(key, name) {
         Ok(TryLock::Granted) => Ok(()),
         Ok(TryLock::Held) => Ok(()),
         Ok(TryLock::Busy { .. }) => Err(Refusal::NotOwner),

@@ -4,31 +4,31 @@ ghost use Rattle.mm_lists.specs.Members.{Among};
 ghost use Rattle.mm_manager.specs.Calls.{LocksName, TriesName};
 ghost use Rattle.mm_manager.specs.Permit.{may_name};
 ghost use Rattle.mm_thin.specs.Spread.{bucket_by};
-ghost use Rattle.mm_desk.specs.Calls.{AdoptsBucket, RefusesBucket, RefusesOne, KeepsFat, KeepsManager, FattensOne, FattensOwn, asked_of, tried_of, RequestsAt, AsksAt, AsksNamed, AttemptsAt, TriesAt, TriesNamed};
+ghost use Rattle.mm_desk.specs.Calls.{AdoptsBucket, RefusesBucket, KeepsFat, KeepsManager, asked_of, tried_of, RequestsAt, AsksAt, AsksNamed, AttemptsAt, TriesAt, TriesNamed};
 
 use crate::desk::Desk;
 use crate::reply::{Adopted, Asked, Tried};
 use mm_manager::{Key, Lock, Refusal, TryLock};
-use mm_thin::Worker;
 
 impl Desk {
-    /// Asks for a name, for the transaction of a worker. First all that the worker has taken is made fat, and the name's bucket too: who
-    /// waits owns nothing thinly. If the request is refused, the name's bucket is freed again, unless the manager has a name of it.
+    /// Asks for a name, for the transaction of a worker. The name's bucket is made fat first, so who owns the name thinly is its owner in the
+    /// manager, also if it waits itself; what else is thin stays thin. If the request is refused, the bucket is freed again, unless the manager
+    /// has a name of it.
     ///
     /// Refused as `NameEmpty` or `NameTooLong` before anything else, and then nothing changes.
-    pub fn ask(&mut self, worker: &Worker, name: &[u8]) -> Result<Asked, Refusal>
-        ensures { AsksAt self.old worker.now name.now result self.new }
+    pub fn ask(&mut self, at: u32, name: &[u8]) -> Result<Asked, Refusal>
+        ensures { AsksAt self.old at name.now result self.new }
     {
         self.may_name(name)?;
-        self.ask_named(worker, name)
+        self.ask_named(at, name)
     }
 
     /// Asks for a name that the manager can have.
-    fn ask_named(&mut self, worker: &Worker, name: &[u8]) -> Result<Asked, Refusal>
-        ensures { AsksNamed self.old worker.now name.now result self.new }
+    fn ask_named(&mut self, at: u32, name: &[u8]) -> Result<Asked, Refusal>
+        ensures { AsksNamed self.old at name.now result self.new }
     {
-        match self.fatten_all(worker, name) {
-            Adopted::Fat => match self.request_at(worker.at(), name) {
+        match self.adopt_name(name) {
+            Adopted::Fat => match self.request_at(at, name) {
                 Ok(asked) => Ok(asked),
                 Err(refusal) => {
                     self.free_name(name);
@@ -40,10 +40,7 @@ impl Desk {
         }
     }
 
-    /// Asks for a name, for the transaction of a worker, and never waits. The name's bucket is made fat; what the worker has taken stays thin.
-    /// If the request is refused, the bucket is freed again, unless the manager has a name of it.
-    ///
-    /// Refused as `NameEmpty` or `NameTooLong` before anything else, and then nothing changes.
+    /// `ask`, but it never waits.
     pub fn try_lock(&mut self, at: u32, name: &[u8]) -> Result<Tried, Refusal>
         ensures { TriesAt self.old at name.now result self.new }
     {
@@ -79,48 +76,6 @@ impl Desk {
             return Err(Refusal::NameTooLong);
         }
         Ok(())
-    }
-
-    /// Makes all fat that a worker has taken, and the bucket of the name that it asks for.
-    fn fatten_all(&mut self, worker: &Worker, name: &[u8]) -> Adopted
-        ensures own { FattensOwn worker.now result self.new }
-        ensures adopts { AdoptsBucket (bucket_by self.old.office.of.spread name.now) result self.new }
-        ensures keeps { KeepsFat self.old self.new }
-        ensures refused { RefusesOne self.old result self.new }
-    {
-        match self.fatten_own(worker) {
-            Adopted::Fat => self.adopt_name(name),
-            Adopted::Changed => Adopted::Changed,
-            Adopted::Refused(refusal) => Adopted::Refused(refusal),
-        }
-    }
-
-    /// Makes all fat that a worker has taken.
-    fn fatten_own(&mut self, worker: &Worker) -> Adopted
-        ensures own { FattensOwn worker.now result self.new }
-        ensures keeps { KeepsFat self.old self.new }
-        ensures refused { RefusesOne self.old result self.new }
-    {
-        for k in 0..worker.places() {
-            match self.fatten_one(worker, k) {
-                Adopted::Fat => {}
-                Adopted::Changed => return Adopted::Changed,
-                Adopted::Refused(refusal) => return Adopted::Refused(refusal),
-            }
-        }
-        Adopted::Fat
-    }
-
-    /// Makes fat what one record of a worker has taken.
-    fn fatten_one(&mut self, worker: &Worker, k: usize) -> Adopted
-        ensures one { FattensOne worker.now k result self.new }
-        ensures keeps { KeepsFat self.old self.new }
-        ensures refused { RefusesOne self.old result self.new }
-    {
-        match worker.taken(k) {
-            Some(name) => self.adopt_name(name),
-            None => Adopted::Fat,
-        }
     }
 
     /// Makes the bucket of a name fat.

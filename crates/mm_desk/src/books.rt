@@ -1,7 +1,7 @@
 //! A lock manager, and how many names of each bucket it has.
 ghost use Rattle.std.specs.Prelude.{◌≡◌, ◌<◌, ◌≤◌, ◌↔◌, Ok, IsTrue, vec_capacity};
 ghost use Rattle.mm_manager.specs.LockState.{IsLawful};
-ghost use Rattle.mm_manager.specs.Calls.{Aborts, Begins, Commits, LocksName, TriesName, UnlocksName, Cancels};
+ghost use Rattle.mm_manager.specs.Calls.{Aborts, AdoptsName, Begins, Commits, LocksName, TriesName, UnlocksName, Cancels};
 ghost use Rattle.mm_desk.specs.Books.{names_in};
 ghost use Rattle.mm_desk.specs.Calls.{GrowsBy, NamesFade, OwnersStay, OthersStay, IsOver};
 
@@ -46,6 +46,22 @@ impl Books {
         ensures spread { self.new.spread ≡ self.old.spread }
     {
         self.manager.begin()
+    }
+
+    /// Makes a transaction, also one that waits, the owner of a name, if nobody owns it.
+    pub(crate) fn adopt(&mut self, key: Key, name: &[u8]) -> Result<TryLock, Refusal>
+        ensures adopts { AdoptsName self.old.manager key name.now result self.new.manager }
+        ensures grows { GrowsBy self.old.manager name.now self.new.manager }
+        ensures stay { OwnersStay self.old.manager self.new.manager }
+        ensures spread { self.new.spread ≡ self.old.spread }
+    {
+        self.manager.keeps_laws();
+        let answer = self.manager.adopt(key, name);
+        if is_try_granted(&answer) {
+            let bucket = self.spread.of(name);
+            self.counts[bucket] += 1;
+        }
+        answer
     }
 
     /// Asks for a name, and never waits.
@@ -156,7 +172,7 @@ fn is_granted(answer: &Result<Lock, Refusal>) -> bool
     matches!(answer, Ok(Lock::Granted))
 }
 
-/// Whether a try was granted.
+/// Whether a try, or an adoption, was granted.
 fn is_try_granted(answer: &Result<TryLock, Refusal>) -> bool
     ensures { IsTrue result ↔ (answer.now ≡ Ok TryLock.Granted) }
 {

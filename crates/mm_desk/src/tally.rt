@@ -21,7 +21,7 @@ fn uncount_one(manager: &LockManager, spread: Spread, number: u32, counts: &mut 
 
 /// Adds the name of a number to the counts.
 fn recount_one(manager: &LockManager, spread: Spread, number: u32, counts: &mut Vec<u32>)
-    requires some { (mid : List (Option (List ℕ))) × AreCounted spread mid counts.old.items × (number < length mid) × (length mid ≤ 65536) × (name_at mid number ≡ None) }
+    requires some { (mid : List (Option (List ℕ))) × AreCounted spread mid counts.old.items × (number < length mid) × (length mid ≤ 16777216) × (name_at mid number ≡ None) }
     ensures { (mid : List (Option (List ℕ))) → AreCounted spread mid counts.old.items → number < length mid → name_at mid number ≡ None → AreCounted spread (slice_set mid number (name_of manager.now.names number)) counts.new.items }
 {
     if let Some(name) = manager.name(number) {
@@ -57,7 +57,7 @@ pub(crate) fn recount(
     requires mended { (mid : List (Option (List ℕ))) × IsMended manager.now.names.names numbers.now.items 0 mid × AreCounted spread mid counts.old.items }
     requires once { NoRepeat numbers.now.items }
     requires inside { (n : ℕ) → Among n numbers.now.items → n < length manager.now.names.names }
-    requires few { length manager.now.names.names ≤ 65536 }
+    requires few { length manager.now.names.names ≤ 16777216 }
     ensures { AreCounted spread manager.now.names.names counts.new.items }
 {
     for k in 0..numbers.len() {

@@ -9,7 +9,7 @@ ghost use Rattle.mm_desk.specs.Calls.{IsLentTo, LoansAreOthers, LoansEnd, KeepsM
 use crate::desk::Desk;
 use crate::reply::Unlocked;
 use mm_manager::{Key, Refusal};
-use mm_thin::Look;
+use mm_thin::{Look, RECORDS};
 
 impl Desk {
     /// Hands a name over that the transaction of a worker owns in the manager; with no waiter it is free. The worker has to let the name's
@@ -75,9 +75,9 @@ impl Desk {
 
 /// Whether a record is of a worker whose transaction has this key.
 fn is_of(keys: &Vec<Key>, number: u32, key: Key) -> bool
-    ensures { IsTrue result ↔ (slice_get keys.now.items (number / 10) ≡ Some key) }
+    ensures { IsTrue result ↔ (slice_get keys.now.items (number / RECORDS) ≡ Some key) }
 {
-    match keys.get(number as usize / 10) {
+    match keys.get(number as usize / RECORDS) {
         Some(found) => *found == key,
         None => false,
     }

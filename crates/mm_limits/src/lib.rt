@@ -10,8 +10,11 @@ pub const COUNT_LIMIT: u64 = 1 << 62;
 /// How many resources a table can have.
 pub const MAX_RESOURCES: u32 = 65_536;
 
-/// How many names can be locked at once. Each is a resource of a table.
-pub const MAX_NAMES: u32 = MAX_RESOURCES;
+/// How many resources a table can have that is opened wide.
+pub const MAX_WIDE_RESOURCES: u32 = 16_777_216;
+
+/// How many names can be locked at once. Each is a resource of a table that is opened wide.
+pub const MAX_NAMES: u32 = MAX_WIDE_RESOURCES;
 
 /// How many bytes a name can have.
 pub const MAX_NAME_BYTES: u32 = 1_024;

@@ -9,6 +9,8 @@ pub mod Names
 -- what a request does, by names
 pub mod Answered
 pub mod Asked
+-- what an adoption leaves of owners, laws and reserves
+pub mod Adopted
 -- from a table with names to what a contract sees
 pub mod Told
 -- a manager that was just opened
@@ -36,3 +38,5 @@ pub mod Fewer
 pub mod Room
 -- no count passes that of the table's events
 pub mod Counted
+-- no call takes labels but a request that meets another owner
+pub mod CallLabels

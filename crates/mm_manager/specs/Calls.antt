@@ -3,6 +3,7 @@ use Rattle.std.specs.Prelude.{◌≡◌, ◌≢◌, ◌⊎◌, ◌↔◌, ℕ, t
 use Rattle.mm_arena.specs.declared.key.Key.{Key}
 use Rattle.mm_lists.specs.Members.{Among}
 use Rattle.mm_names.specs.Names.{NameTable, name_of, Interns}
+use Rattle.mm_rules.specs.Adopt.{Adopts}
 use Rattle.mm_rules.specs.declared.reply.Released.{Released}
 use Rattle.mm_rules.specs.TableState.{TableState, is_live, owner_of}
 use Rattle.mm_rules.specs.TakeBack.{LeadsTo, IsSameButLabels}
@@ -14,13 +15,14 @@ use Rattle.mm_settled.specs.declared.reply.Locked.{Locked}
 use Rattle.mm_settled.specs.declared.reply.Locked.TheVariants as locked
 use Rattle.mm_manager.specs.Permit.{may_ask, may_begin, may_cancel, may_wait}
 use Rattle.mm_manager.specs.LockState.{LockState, Owns, Waits, IsUnowned, KeepOwned, untold}
-use Rattle.mm_manager.specs.Refused.{TryRefused, LockRefused, UnlockRefused}
+use Rattle.mm_manager.specs.Refused.{AdoptRefused, TryRefused, LockRefused, UnlockRefused}
 use Rattle.mm_manager.specs.declared.refusal.Refusal.{Refusal}
 use Rattle.mm_manager.specs.declared.refusal.Refusal.TheVariants.{NoTransaction}
 use Rattle.mm_manager.specs.declared.reply.Lock.{Lock}
 use Rattle.mm_manager.specs.declared.reply.Lock.TheVariants as lock
 use Rattle.mm_manager.specs.declared.reply.TryLock.{TryLock}
 use Rattle.mm_manager.specs.declared.reply.TryLock.TheVariants as tried
+use Rattle.mm_manager.specs.declared.totals.Totals.{Totals}
 
 -- ---- begin
 
@@ -69,6 +71,11 @@ TriesName old k name (Ok tried.Held) new = Owns old k name × (new ≡ untold ol
 TriesName old k name (Ok (tried.Busy h)) new = Owns old h name × (h ≢ k) × (new ≡ untold old)
 TriesName old k name (Err refusal) new = (new ≡ untold old) × TryRefused old k name refusal
 
+-- what an adoption does, by its answer: what a try does that is so answered; but also who waits may be given a name
+abbrev pub AdoptsName : LockState → Key → List ℕ → Result TryLock Refusal → LockState → Type 0
+AdoptsName old k name (Ok answer) new = TriesName old k name (Ok answer) new
+AdoptsName old k name (Err refusal) new = (new ≡ untold old) × AdoptRefused old k name refusal
+
 -- by numbers: the name has a number, now or already, and the table at rest answers the request for that number so
 abbrev pub Asks : TableState → NameTable → Key → List ℕ → Locked → TableState → NameTable → Type 0
 Asks s t k name answer new named = (n : ℕ) × Interns t name n named × Locks s k n (Ok answer) new
@@ -78,17 +85,23 @@ abbrev pub Finds : TableState → NameTable → List ℕ → Key → TableState 
 Finds s t name h new named = ((n : ℕ) × (name_of t n ≡ Some name) × (owner_of s n ≡ Some h)) × (new ≡ s) × (named ≡ t)
 
 -- so a request is answered: with its name's number from now on, or as one that owns it already; who waits has a label left for that
-abbrev pub Requests : TableState → NameTable → Key → List ℕ → Lock → TableState → NameTable → Type 0
-Requests s t k name lock.Granted new named = Asks s t k name locked.Granted new named
-Requests s t k name (lock.Waits h) new named = (may_wait s ≡ true) × Asks s t k name (locked.Waits h) new named
-Requests s t k name (lock.Deadlock h) new named = (may_wait s ≡ true) × Asks s t k name (locked.Deadlock h) new named
-Requests s t k name lock.Held new named = Finds s t name k new named
+abbrev pub Requests : TableState → NameTable → Totals → Key → List ℕ → Lock → TableState → NameTable → Type 0
+Requests s t c k name lock.Granted new named = Asks s t k name locked.Granted new named
+Requests s t c k name (lock.Waits h) new named = (may_wait s c ≡ true) × Asks s t k name (locked.Waits h) new named
+Requests s t c k name (lock.Deadlock h) new named = (may_wait s c ≡ true) × Asks s t k name (locked.Deadlock h) new named
+Requests s t c k name lock.Held new named = Finds s t name k new named
 
 -- so a try is answered
 abbrev pub Tries : TableState → NameTable → Key → List ℕ → TryLock → TableState → NameTable → Type 0
 Tries s t k name tried.Granted new named = Asks s t k name locked.Granted new named
 Tries s t k name tried.Held new named = Finds s t name k new named
 Tries s t k name (tried.Busy h) new named = (h ≢ k) × Finds s t name h new named
+
+-- so an adoption is answered: nobody owned the name's number and k does, and but for this owner the table is as it was
+abbrev pub AdoptsNumber : TableState → NameTable → Key → List ℕ → TryLock → TableState → NameTable → Type 0
+AdoptsNumber s t k name tried.Granted new named = (n : ℕ) × Interns t name n named × Adopts k n s new
+AdoptsNumber s t k name tried.Held new named = Finds s t name k new named
+AdoptsNumber s t k name (tried.Busy h) new named = (h ≢ k) × Finds s t name h new named
 
 -- ---- hand-overs
 

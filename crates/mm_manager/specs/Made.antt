@@ -2,8 +2,8 @@
 use Rattle.std.specs.Prelude.{◌≡◌, ℕ, List, [], Result, Ok, IfOk, OnOk}
 use Rattle.mm_arena.specs.declared.key.Key.{Key}
 use Rattle.mm_manager.specs.LockState.{LockState}
-use Rattle.mm_manager.specs.Calls.{Begins, LocksName, TriesName, Requests, Tries, UnlocksName, Commits, Aborts, Cancels}
-use Rattle.mm_manager.specs.Permit.{may_request}
+use Rattle.mm_manager.specs.Calls.{AdoptsName, AdoptsNumber, Begins, LocksName, TriesName, Requests, Tries, UnlocksName, Commits, Aborts, Cancels}
+use Rattle.mm_manager.specs.Permit.{may_adopt, may_request}
 use Rattle.mm_manager.specs.Totals.{after_begin, after_lock, after_commit, after_abort, after_cancel}
 use Rattle.mm_manager.specs.declared.refusal.Refusal.{Refusal}
 use Rattle.mm_manager.specs.declared.reply.Lock.{Lock}
@@ -16,7 +16,7 @@ pub record Begun (old : LockState) (answer : Result Key Refusal) (new : LockStat
 pub record Locked (old : LockState) (k : Key) (name : List ℕ) (answer : Result Lock Refusal) (new : LockState) : Type 0 where
   pub locks : LocksName old k name answer new
   pub may : OnOk answer (may_request old.table old.names.name_bytes k name ≡ Ok tt)
-  pub step : IfOk answer (λ lock. Requests old.table old.names k name lock new.table new.names)
+  pub step : IfOk answer (λ lock. Requests old.table old.names old.totals k name lock new.table new.names)
   pub granted : new.granted ≡ []
   pub totals : new.totals ≡ after_lock old.totals answer
 
@@ -24,6 +24,13 @@ pub record Tried (old : LockState) (k : Key) (name : List ℕ) (answer : Result 
   pub tries : TriesName old k name answer new
   pub may : OnOk answer (may_request old.table old.names.name_bytes k name ≡ Ok tt)
   pub step : IfOk answer (λ tried. Tries old.table old.names k name tried new.table new.names)
+  pub granted : new.granted ≡ []
+  pub totals : new.totals ≡ old.totals
+
+pub record Adopted (old : LockState) (k : Key) (name : List ℕ) (answer : Result TryLock Refusal) (new : LockState) : Type 0 where
+  pub adopts : AdoptsName old k name answer new
+  pub may : OnOk answer (may_adopt old.table old.names.name_bytes k name ≡ Ok tt)
+  pub step : IfOk answer (λ adopted. AdoptsNumber old.table old.names k name adopted new.table new.names)
   pub granted : new.granted ≡ []
   pub totals : new.totals ≡ old.totals
 

@@ -10,7 +10,7 @@ use mm_settled::Config;
 pub struct ManagerConfig {
     /// How many transactions there can be at once: 1 to 65,536.
     pub transactions: u32,
-    /// How many names can be owned at once: 1 to 65,536.
+    /// How many names can be owned at once: 1 to 16,777,216.
     pub names: u32,
     /// How many bytes a name may have: 1 to 1,024. Memory is taken for this many bytes of each name.
     pub name_bytes: u32,

@@ -5,7 +5,7 @@
 //! - `numbers`: a number has a name exactly while it has an owner.
 //! - `named`: a table whose resources have names.
 //! - `open`: the table and the names of a manager that is opened.
-//! - `begin`, `lock`, `try_lock`, `unlock`, `commit`, `abort`, `cancel`: the calls, over these.
+//! - `begin`, `lock`, `try_lock`, `adopt`, `unlock`, `commit`, `abort`, `cancel`: the calls, over these.
 //! - `manager`: `LockManager`, with one method for each call.
 //! - `reads`: what can be read of a manager.
 //! - `graph`: the wait-for graph. `transactions`: the live transactions.
@@ -13,6 +13,7 @@
 #![tactic(auto)]
 
 mod abort;
+mod adopt;
 mod begin;
 mod cancel;
 mod commit;

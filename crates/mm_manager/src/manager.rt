@@ -7,9 +7,9 @@ ghost use Rattle.mm_names.specs.Names.{name_of};
 ghost use Rattle.mm_rules.specs.TableState.{owner_of};
 ghost use Rattle.mm_rules.specs.Event.{tenant_of};
 ghost use Rattle.mm_manager.specs.LockState.{HasOwnSlot, Owns, IsLawful};
-ghost use Rattle.mm_manager.specs.Permit.{counts_left, labels_left, may_ask, may_request};
+ghost use Rattle.mm_manager.specs.Permit.{counts_left, labels_left, may_adopt, may_ask, may_request};
 ghost use Rattle.mm_manager.specs.Opening.{opening_state, IsTransactionsOut, IsNamesOut, IsNameBytesOut};
-ghost use Rattle.mm_manager.specs.Calls.{Begins, LocksName, TriesName, Requests, Tries, UnlocksName, Commits, Aborts, Cancels};
+ghost use Rattle.mm_manager.specs.Calls.{AdoptsName, AdoptsNumber, Begins, LocksName, TriesName, Requests, Tries, UnlocksName, Commits, Aborts, Cancels};
 ghost use Rattle.mm_manager.specs.Made.{Locked};
 ghost use Rattle.mm_manager.specs.Reads.{HasStatus, config_of, live_of, wait_at, waits_of};
 ghost use Rattle.mm_manager.specs.Totals.{after_begin, after_lock, after_commit, after_abort, after_cancel};
@@ -96,7 +96,7 @@ impl LockManager {
     /// Starts a transaction, and returns its key. Nothing else changes. The `process` of the key is a slot: it is below the `transactions` of
     /// the configuration, and no other live transaction has it.
     ///
-    /// Refused as `CountsFull` if 4,611,686,018,426,339,328 events were counted or more, and as `TransactionsFull` if there are as
+    /// Refused as `CountsFull` if 4,611,686,018,360,279,040 events were counted or more, and as `TransactionsFull` if there are as
     /// many transactions as there can be, which is tested second. Constant time.
     #[inline(always)]
     pub fn begin(&mut self) -> Result<Key, Refusal>
@@ -123,14 +123,14 @@ impl LockManager {
     ///
     /// Nobody else's owners or waits change. Refused as `NoTransaction`, `Waiting`, `CountsFull`, `NameEmpty`, `NameTooLong`, `NamesFull` or
     /// `LabelsFull`, which are tested in this order: as `CountsFull` if `begin` is, as `NamesFull` if nobody owns the name and all numbers are
-    /// taken, and as `LabelsFull` if another transaction owns it, and half as many events were counted as labels can be high, 8,796,093,022,207,
-    /// or more. `O(length)` if nobody else owns it; a wait and a deadlock cost the settle that follows.
+    /// taken, and as `LabelsFull` if another transaction owns it, and half as many requests were answered `Waits` or `Deadlock` as labels can
+    /// be high, 8,796,093,022,207. `O(length)` if nobody else owns it; a wait and a deadlock cost the settle that follows.
     // In place: it is one call itself, of `NamedTable::lock`.
     #[inline(always)]
     pub fn lock(&mut self, key: Key, name: &[u8]) -> Result<Lock, Refusal>
         ensures locks { LocksName self.old key name.now result self.new }
         ensures may { OnOk result (may_request self.old.table self.old.names.name_bytes key name.now ≡ Ok tt) }
-        ensures step { IfOk result (λ answer. Requests self.old.table self.old.names key name.now answer self.new.table self.new.names) }
+        ensures step { IfOk result (λ answer. Requests self.old.table self.old.names self.old.totals key name.now answer self.new.table self.new.names) }
         ensures granted { self.new.granted ≡ [] }
         ensures totals { self.new.totals ≡ after_lock self.old.totals result }
     {
@@ -143,7 +143,7 @@ impl LockManager {
         requires { may_ask self.old.table key ≡ Ok tt }
         ensures locks { LocksName self.old key name.now result self.new }
         ensures may { OnOk result (may_request self.old.table self.old.names.name_bytes key name.now ≡ Ok tt) }
-        ensures step { IfOk result (λ answer. Requests self.old.table self.old.names key name.now answer self.new.table self.new.names) }
+        ensures step { IfOk result (λ answer. Requests self.old.table self.old.names self.old.totals key name.now answer self.new.table self.new.names) }
         ensures granted { self.new.granted ≡ [] }
         ensures totals { self.new.totals ≡ after_lock self.old.totals result }
     {
@@ -157,7 +157,7 @@ impl LockManager {
         ensures { Locked self.old key name.now result self.new }
     {
         self.named.table.is_at_rest();
-        let answer = self.named.lock(key, name, is_active);
+        let answer = self.named.lock(&self.totals, key, name, is_active);
         self.tells = false;
         self.totals.count_lock(&answer);
         answer
@@ -181,6 +181,29 @@ impl LockManager {
         self.named.table.is_at_rest();
         self.tells = false;
         self.named.try_lock(key, name)
+    }
+
+    /// Makes a transaction, also one that waits, the owner of a name, if nobody owns it: so a caller that keeps owners of its own can tell the
+    /// manager of one when somebody else asks for the name.
+    ///
+    /// - `Granted`: nobody owned it, and the transaction does now. Nobody waited for it, so no wait changes.
+    /// - `Held`: the transaction owns it already, and nothing changes.
+    /// - `Busy`: the holder owns it, and nothing changes.
+    ///
+    /// It is no event: neither `events` nor `totals` counts it. `granted` is empty after it.
+    ///
+    /// Refused as `NoTransaction`, `CountsFull`, `NameEmpty`, `NameTooLong` or `NamesFull`, which are tested in this order, and mean what they do
+    /// of `lock`. `O(length)`.
+    pub fn adopt(&mut self, key: Key, name: &[u8]) -> Result<TryLock, Refusal>
+        ensures adopts { AdoptsName self.old key name.now result self.new }
+        ensures may { OnOk result (may_adopt self.old.table self.old.names.name_bytes key name.now ≡ Ok tt) }
+        ensures step { IfOk result (λ answer. AdoptsNumber self.old.table self.old.names key name.now answer self.new.table self.new.names) }
+        ensures granted { self.new.granted ≡ [] }
+        ensures totals { self.new.totals ≡ self.old.totals }
+    {
+        self.named.table.is_at_rest();
+        self.tells = false;
+        self.named.adopt(key, name)
     }
 
     /// Hands the name over: its longest waiter owns it from now on and is listed in `granted`; with no waiter it is free.
@@ -344,25 +367,28 @@ impl LockManager {
     }
 
     /// Returns how many events of the table were counted since the opening: each begin, request, hand-over, end and wait that is taken back, and
-    /// each settle. By this number `begin`, `lock` and `try_lock` are refused as `CountsFull`. Constant time.
+    /// each settle. By this number `begin`, `lock`, `try_lock` and `adopt` are refused as `CountsFull`. `adopt` counts nothing. What is
+    /// read while a transaction owns a name is still greater than what was read while an earlier one owned it: the hand-over or end between the two
+    /// was counted. Constant time.
     pub fn events(&self) -> u64
         ensures { result ≡ self.now.table.totals.accepted }
     {
         self.named.table.table().totals().accepted
     }
 
-    /// Returns how many events can be counted before `begin`, `lock` and `try_lock` are refused as `CountsFull`. Constant time.
+    /// Returns how many events can be counted before `begin`, `lock`, `try_lock` and `adopt` are refused as `CountsFull`. Constant time.
     pub fn counts_left(&self) -> u64
         ensures { result ≡ counts_left self.now.table }
     {
         permit::counts_left(self.named.table.table())
     }
 
-    /// Returns how many events can be counted before a `lock` of what another transaction owns is refused as `LabelsFull`. Constant time.
+    /// Returns how many requests can be answered `Waits` or `Deadlock` before a `lock` of what another transaction owns is refused as
+    /// `LabelsFull`. Constant time.
     pub fn labels_left(&self) -> u64
-        ensures { result ≡ labels_left self.now.table }
+        ensures { result ≡ labels_left self.now.table self.now.totals }
     {
-        permit::labels_left(self.named.table.table())
+        permit::labels_left(self.named.table.table(), &self.totals)
     }
 
     /// Does nothing. Its contract is what holds of any manager that a caller can hold, whatever was called.

@@ -1,7 +1,7 @@
 //! The table and the names of a manager that is opened.
 ghost use Rattle.std.specs.Prelude.{◌≡◌, IfOk, IfErr, OnOk};
 ghost use Rattle.mm_names.specs.Names.{nameless};
-ghost use Rattle.mm_rules.specs.TableState.{IsInRange, opening};
+ghost use Rattle.mm_rules.specs.TableState.{IsWide, opening};
 ghost use Rattle.mm_manager.specs.Opening.{table_config, IsTransactionsOut, IsNamesOut, IsNameBytesOut};
 
 use crate::{ManagerConfig, OpenError};
@@ -27,7 +27,7 @@ pub fn open_table(alloc: Global, config: ManagerConfig) -> Result<SettledTable, 
     requires transactions { ¬ IsTransactionsOut config }
     requires names { ¬ IsNamesOut config }
     ensures opened { IfOk result (λ table. table.table ≡ opening (table_config config)) }
-    ensures range { OnOk result (IsInRange (table_config config)) }
+    ensures range { OnOk result (IsWide (table_config config)) }
     ensures memory { IfErr result (λ error. error ≡ OpenError.Memory) }
 {
     match SettledTable::open(alloc, config.of_table()) {

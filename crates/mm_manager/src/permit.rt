@@ -1,17 +1,18 @@
 //! What a call is refused for before the table is asked.
-ghost use Rattle.std.specs.Prelude.{◌≡◌, ◌≢◌, ◌-◌, ◌/◌, Ok, Err};
-ghost use Rattle.mm_manager.specs.Permit.{first_refusal, counts_left, labels_left, may_ask, may_cancel, may_count, may_name, may_wait};
+ghost use Rattle.std.specs.Prelude.{◌≡◌, ◌≢◌, ◌<◌, ◌-◌, ◌/◌, ◌^◌, Ok, Err};
+ghost use Rattle.mm_manager.specs.Permit.{first_refusal, counts_left, labels_left, may_ask, may_cancel, may_count, may_name, may_own, may_wait};
+ghost use Rattle.mm_manager.specs.Totals.{all_of};
 ghost use Rattle.mm_manager.specs.private.Requests.{may_ask_more};
 
-use crate::{Key, Refusal};
+use crate::{Key, Refusal, Totals};
 use mm_limits::COUNT_LIMIT;
 use mm_names::Names;
 use mm_settled::Table;
 use mm_table::Mode;
 
-/// If this many events were counted, no transaction begins and no name is asked for. What is left below the table's limit is for the ends
+/// If this many events were counted, no transaction begins, and no name is asked for or adopted. What is left below the table's limit is for the ends
 /// of those that are live then.
-const EVENT_LIMIT: u64 = COUNT_LIMIT - (1 << 20);
+const EVENT_LIMIT: u64 = COUNT_LIMIT - (1 << 26);
 
 /// Returns whether a transaction may ask for something: its key is live, and it does not wait.
 pub fn may_ask(table: &Table, key: Key) -> Result<(), Refusal>
@@ -62,6 +63,16 @@ pub fn may_count(table: &Table) -> Result<(), Refusal>
     }
 }
 
+/// Returns whether a transaction may own one name more: its key is live, and an event may still be counted.
+pub fn may_own(table: &Table, key: Key) -> Result<(), Refusal>
+    ensures { result ≡ may_own table.now key }
+{
+    if table.state(key).is_err() {
+        return Err(Refusal::NoTransaction);
+    }
+    may_count(table)
+}
+
 /// Returns how many events can be counted before `CountsFull`.
 pub fn counts_left(table: &Table) -> u64
     ensures { result ≡ counts_left table.now }
@@ -69,11 +80,12 @@ pub fn counts_left(table: &Table) -> u64
     EVENT_LIMIT.saturating_sub(table.totals().accepted)
 }
 
-/// Returns how many events can be counted before `LabelsFull`.
-pub fn labels_left(table: &Table) -> u64
-    ensures { result ≡ labels_left table.now }
+/// Returns how many requests can meet another owner before `LabelsFull`.
+pub fn labels_left(table: &Table, totals: &Totals) -> u64
+    requires { all_of totals.now < 2 ^ 64 }
+    ensures { result ≡ labels_left table.now totals.now }
 {
-    (table.config().label_limit / 2).saturating_sub(table.totals().accepted)
+    (table.config().label_limit / 2).saturating_sub(totals.waits + totals.deadlocks)
 }
 
 /// Returns why a request is refused, whatever the name is that it asks for.
@@ -103,10 +115,11 @@ pub fn refused_first(table: &Table, key: Key, found: Refusal) -> Refusal
 }
 
 /// Returns whether there is a label left for one more wait, and for the hand-overs after it.
-pub fn may_wait(table: &Table) -> bool
-    ensures { result ≡ may_wait table.now }
+pub fn may_wait(table: &Table, totals: &Totals) -> bool
+    requires { all_of totals.now < 2 ^ 64 }
+    ensures { result ≡ may_wait table.now totals.now }
 {
-    table.totals().accepted < table.config().label_limit / 2
+    totals.waits + totals.deadlocks < table.config().label_limit / 2
 }
 
 /// Returns whether these bytes can be a name.

@@ -9,7 +9,7 @@ pub enum OpenError {
     #[error("transactions is not from 1 to 65536")]
     Transactions,
     /// The field `names`, if the one before is in its range.
-    #[error("names is not from 1 to 65536")]
+    #[error("names is not from 1 to 16777216")]
     Names,
     /// The field `name_bytes`, if those before are in their ranges.
     #[error("name_bytes is not from 1 to 1024")]
@@ -40,7 +40,7 @@ pub enum Refusal {
     /// Only of `lock`, if it would wait.
     #[error("there may be no label left for one more wait")]
     LabelsFull,
-    /// Only of `begin`, `lock` and `try_lock`.
+    /// Only of `begin`, `lock`, `try_lock` and `adopt`.
     #[error("the count of events is at its limit")]
     CountsFull,
 }

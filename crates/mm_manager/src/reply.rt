@@ -14,7 +14,7 @@ pub enum Lock {
     Deadlock { holder: Key },
 }
 
-/// What a try for a lock is told. It never waits.
+/// What a try for a lock, or an adoption, is told. Neither waits.
 #[derive(Clone, Copy, Debug, PartialEq, Eq)]
 pub enum TryLock {
     /// Nobody owned the name, and the transaction owns it now.

@@ -54,8 +54,8 @@ impl NamedTable {
     }
 }
 
-/// Returns what a try is told of a name that the holder owns.
-fn tried(holder: Key, key: Key) -> TryLock
+/// Returns what a try, or an adoption, is told of a name that the holder owns.
+pub fn tried(holder: Key, key: Key) -> TryLock
     ensures { result ≡ tried_by holder key }
 {
     if holder == key {

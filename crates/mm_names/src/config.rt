@@ -3,7 +3,7 @@
 /// The numbers with which a [`Names`](crate::Names) is opened. They never change.
 #[derive(Clone, Copy, Debug, PartialEq, Eq)]
 pub struct NamesConfig {
-    /// How many names there can be at once: 1 to 65,536.
+    /// How many names there can be at once: 1 to 16,777,216.
     pub names: u32,
     /// How many bytes a name may have: 1 to 1,024. Memory is taken for this many bytes of each name.
     pub name_bytes: u32,

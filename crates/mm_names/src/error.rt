@@ -6,7 +6,7 @@ use thiserror::Error;
 #[derive(Clone, Copy, Debug, PartialEq, Eq, Error)]
 pub enum OpenError {
     /// The field `names` of the configuration.
-    #[error("names is not from 1 to 65536")]
+    #[error("names is not from 1 to 16777216")]
     Names,
     /// The field `name_bytes` of the configuration, if `names` is in its range.
     #[error("name_bytes is not from 1 to 1024")]

@@ -36,7 +36,6 @@ impl Lists {
     /// `Err` only if that memory is refused.
     pub fn new(alloc: Global, lists: u32, processes: u32) -> Result<Lists, Memory>
         requires some_lists { 1 ≤ lists }
-        requires lists_in_range { lists ≤ MAX_CAPACITY }
         requires some_processes { 1 ≤ processes }
         requires processes_in_range { processes ≤ MAX_CAPACITY }
         ensures { IfOk result (λ made. made ≡ empty_queues lists processes) }

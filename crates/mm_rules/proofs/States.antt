@@ -10,6 +10,7 @@ pub mod Outcome
 -- changes that close no cycle of waits
 pub mod ClosesNone
 -- a table that was just opened
+pub mod Wide
 pub mod Opening
 -- begin and acquire
 pub mod Begin
@@ -70,3 +71,5 @@ pub mod Withdraw
 pub mod WithdrawLaws
 -- a victim that takes back its wait
 pub mod TakeBack
+-- an owner for a resource that has none
+pub mod Adopt

@@ -18,7 +18,7 @@ use Rattle.mm_rules.specs.declared.reply.Settled.{Settled}
 use Rattle.mm_rules.specs.declared.reply.State.{State}
 use Rattle.mm_rules.specs.declared.reply.Mode.{Mode}
 use Rattle.mm_rules.specs.declared.reply.Mode.TheVariants as mode
-use Rattle.mm_rules.specs.TableState.{TableState, Wait, IsInRange, opening, key_of, is_live, private_of, public_of, has_verdict, owner_of, owns, wait_of, is_waiting, waiting_processes, waiters_of}
+use Rattle.mm_rules.specs.TableState.{TableState, Wait, IsInRange, IsWide, opening, key_of, is_live, private_of, public_of, has_verdict, owner_of, owns, wait_of, is_waiting, waiting_processes, waiters_of}
 use Rattle.mm_rules.specs.Change.{label_against, block, activate, hand_over, vacate, abort, greater_label, transmit, can_detect, detect, sweep_raises, swept, total_raises, block_fits, hand_over_fits, vacate_fits}
 
 -- ---- refusals
@@ -200,6 +200,11 @@ IsReached c s = (es : List Event) × Run (opening c) es s
 abbrev pub Opens : Config → Result TableState Refusal → Type 0
 Opens c (Ok s) = IsInRange c × (s ≡ opening c)
 Opens c (Err e) = ((e ≡ BadConfig) × ¬ IsInRange c) ⊎ ((e ≡ Memory) × IsInRange c)
+
+-- so it is with a wide opening, whose range is wider
+abbrev pub OpensWide : Config → Result TableState Refusal → Type 0
+OpensWide c (Ok s) = IsWide c × (s ≡ opening c)
+OpensWide c (Err e) = ((e ≡ BadConfig) × ¬ IsWide c) ⊎ ((e ≡ Memory) × IsWide c)
 
 -- the mode of a transaction by what it waits for, if anything, and whether it has a verdict
 abbrev pub mode_of : Option ℕ → Bool → Mode

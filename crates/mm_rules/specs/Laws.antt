@@ -9,7 +9,7 @@ use Rattle.mm_rules.specs.declared.reply.Detected.TheVariants.{Deadlock}
 use Rattle.mm_rules.specs.declared.reply.Settled.{Settled}
 use Rattle.mm_rules.specs.declared.reply.Totals.{Totals}
 use Rattle.mm_rules.specs.declared.reply.Transmitted.TheVariants.{Raised}
-use Rattle.mm_rules.specs.TableState.{TableState, Wait, IsInRange, IsSized, opening, is_live, private_of, public_of, has_verdict, owner_of, is_waiting, waiting_processes, graph_of}
+use Rattle.mm_rules.specs.TableState.{TableState, Wait, IsWide, IsSized, opening, is_live, private_of, public_of, has_verdict, owner_of, is_waiting, waiting_processes, graph_of}
 use Rattle.mm_rules.specs.Event.{Event, Begin, Transmit, Detect, Abort, Settle, Answer, Step, Run, IsReached, Settles}
 use Rattle.mm_lists.specs.Members.{Among, NoRepeat}
 use Rattle.mm_rules.specs.Graph.{Cycle, LabelReturned, Deadlocked, IsGreatest, PropagatedLaw, RisingLaw, ToppedLaw, IsSettled}
@@ -22,7 +22,7 @@ IsHeld s w = MatchOption (owner_of s w.resource) ⊥ (λ k. k.process ≢ w.key.
 
 -- sizes and numbers fit the configuration; owners, waits and verdicts name live keys, and free processes have none
 pub record WellFormed (s : TableState) : Type 0 where
-  pub config : IsInRange s.config
+  pub config : IsWide s.config
   pub sizes : IsSized s
   pub owners : (r : ℕ) (k : Key) → owner_of s r ≡ Some k → IsTrue (is_live s k)
   pub waits : AllByRecursion (λ w. IsTrue (is_live s w.key) × IsHeld s w) s.waits
@@ -93,7 +93,7 @@ pub record AtRest (s : TableState) : Type 0 where
 -- ---- what is proved of them
 
 abbrev pub OpeningIsLawful : Type 0
-OpeningIsLawful = (c : Config) → IsInRange c → Laws (opening c)
+OpeningIsLawful = (c : Config) → IsWide c → Laws (opening c)
 
 -- every event keeps all laws
 abbrev pub EventsKeepLaws : Type 0
@@ -101,11 +101,11 @@ EventsKeepLaws = (e : Event) (old new : TableState) (reply : Result (Answer e) R
 
 -- so every state that is reached has them
 abbrev pub ReachedIsLawful : Type 0
-ReachedIsLawful = (c : Config) → IsInRange c → (s : TableState) → IsReached c s → Laws s
+ReachedIsLawful = (c : Config) → IsWide c → (s : TableState) → IsReached c s → Laws s
 
 -- and a verdict can stand in one
 abbrev pub LawsAreNotEmpty : Type 0
-LawsAreNotEmpty = (c : Config) × IsInRange c × (s : TableState) × IsReached c s × (v : ℕ) × IsTrue (has_verdict s v)
+LawsAreNotEmpty = (c : Config) × IsWide c × (s : TableState) × IsReached c s × (v : ℕ) × IsTrue (has_verdict s v)
 
 -- owners and waits name live keys, private labels are distinct, each verdict is of a deadlocked process whose private label is the greatest of its cycle, and no cycle has two
 pub record HasSoundVerdicts (s : TableState) : Type 0 where

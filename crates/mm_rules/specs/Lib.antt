@@ -8,5 +8,6 @@ pub mod Victims
 pub mod Rest
 pub mod Withdraw
 pub mod TakeBack
+pub mod Adopt
 -- what a table is between the parts of an event, for the contracts of code that keeps a table; no public clause cites these
 pub mod Stages

@@ -2,7 +2,7 @@
 use Rattle.std.specs.Prelude.{ℕ, ◌≡◌, Result}
 use Rattle.mm_rules.specs.declared.config.Config.{Config}
 use Rattle.mm_rules.specs.declared.refusal.Refusal.{Refusal}
-use Rattle.mm_rules.specs.TableState.{TableState, IsInRange, opening, public_of, graph_of}
+use Rattle.mm_rules.specs.TableState.{TableState, IsWide, opening, public_of, graph_of}
 use Rattle.mm_rules.specs.Event.{Event, Answer, Step}
 use Rattle.mm_rules.specs.Graph.{WaitsFor}
 use Rattle.mm_rules.specs.Laws.{Laws, AtRest}
@@ -13,7 +13,7 @@ HoldersShowTheSame old new = (n h : ℕ) → WaitsFor (graph_of new) n h → pub
 
 -- a table that was just opened is at rest
 abbrev pub OpeningIsAtRest : Type 0
-OpeningIsAtRest = (c : Config) → IsInRange c → AtRest (opening c)
+OpeningIsAtRest = (c : Config) → IsWide c → AtRest (opening c)
 
 -- and it stays at rest by each event after which each holder shows the label that it showed before
 abbrev pub RestStays : Type 0

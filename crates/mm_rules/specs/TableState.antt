@@ -3,18 +3,26 @@ use Rattle.std.specs.Prelude.{ℕ, ◌≤◌, ◌<◌, ◌^◌, ◌≡◌, Bool,
 use Rattle.std.specs.List.{range_with_len}
 use Rattle.std.specs.Option.{option_map_or}
 use Rattle.mm_label.specs.Label.{Label, opening_label, word_of}
-use Rattle.mm_limits.specs.declared.TheConstants.{MAX_PROCESSES, MAX_RESOURCES}
+use Rattle.mm_limits.specs.declared.TheConstants.{MAX_PROCESSES, MAX_RESOURCES, MAX_WIDE_RESOURCES}
 use Rattle.mm_rules.specs.declared.config.Config.{Config}
 use Rattle.mm_arena.specs.declared.key.Key.{Key}
 use Rattle.mm_rules.specs.declared.reply.Totals.{Totals}
 use Rattle.mm_rules.specs.Graph.{Graph}
 
--- the numbers that a table may be opened with
-pub record IsInRange (c : Config) : Type 0 where
+-- the numbers are in their ranges, where this many resources are the most
+pub record IsWithin (most : ℕ) (c : Config) : Type 0 where
   pub processes : (1 ≤ c.processes) × (c.processes ≤ MAX_PROCESSES)
-  pub resources : (1 ≤ c.resources) × (c.resources ≤ MAX_RESOURCES)
+  pub resources : (1 ≤ c.resources) × (c.resources ≤ most)
   pub label_limit : (1 ≤ c.label_limit) × (c.label_limit < 2 ^ 44)
   pub generation_limit : 1 ≤ c.generation_limit
+
+-- the numbers that a table may be opened with
+abbrev pub IsInRange : Config → Type 0
+IsInRange c = IsWithin MAX_RESOURCES c
+
+-- the numbers that a table may be opened wide with
+abbrev pub IsWide : Config → Type 0
+IsWide c = IsWithin MAX_WIDE_RESOURCES c
 
 -- a transaction that waits, and what for
 pub record Wait : Type 0 where

@@ -1,4 +1,5 @@
 //! Facts about all tables. Each function does nothing; its contract is the fact, over the definitions of `specs/`.
+ghost use Rattle.mm_rules.specs.Adopt.{AdoptKeepsGraph, AdoptKeepsLaws, AdoptStaysAtRest};
 ghost use Rattle.mm_rules.specs.Laws.{CountsAreExact, EventsKeepLaws, KeysAreFresh, KeysNeverReturn, LawsAreNotEmpty, OpeningIsLawful, PublicLabelsNeverFall, QuietHasNoCycle, RaisesAreBounded, ReachedIsLawful, SettleEnds, SettleGivesRest, StepsAreDetermined, VerdictsAreSound};
 ghost use Rattle.mm_rules.specs.Rest.{OpeningIsAtRest, RestStays};
 ghost use Rattle.mm_rules.specs.Victims.{CloserIsVictim, NewestCloserIsVictim, OnlyWaitsCloseCycles, OthersHaveNoVictim, VictimIsNewest};
@@ -183,4 +184,19 @@ pub fn closes_where_led_back()
 /// table is at rest without a verdict again, and but for labels and counts as it was.
 pub fn closer_is_refused()
     ensures { CloserIsRefused }
+{}
+
+/// A live transaction, also one that waits, may become the owner of a resource that nobody owns: all laws stay.
+pub fn adopt_keeps_laws()
+    ensures { AdoptKeepsLaws }
+{}
+
+/// Nobody has another holder or another label by that.
+pub fn adopt_keeps_graph()
+    ensures { AdoptKeepsGraph }
+{}
+
+/// So a table at rest stays at rest.
+pub fn adopt_stays_at_rest()
+    ensures { AdoptStaysAtRest }
 {}

@@ -48,11 +48,16 @@ with_key_and_name request (k ∷ n ∷ []) = do
   Some (record { request = request key; name = name })
 with_key_and_name _ _ = None
 
+-- K: this request of a key, about no name; K FROM: about what comes after this name
+abbrev pub with_key_from : (Key → Request) → List (List ℕ) → Option AskedFor
+with_key_from request (k ∷ []) = with_key request (k ∷ [])
+with_key_from request words = with_key_and_name request words
+
 -- the request that a form makes of the words behind its word
 abbrev pub request_by : Form → List (List ℕ) → Option AskedFor
 request_by forms.Begin = alone requests.Begin
 request_by (forms.Key request) = with_key (requests.OfKey request)
-request_by forms.Holds = with_key requests.Holds
+request_by forms.Holds = with_key_from requests.Holds
 request_by (forms.KeyAndName request) = with_key_and_name (requests.OfName request)
 request_by forms.Owner = with_name requests.Owner
 request_by forms.Graph = alone requests.Graph

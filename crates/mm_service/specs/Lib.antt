@@ -8,6 +8,8 @@ pub mod Line
 pub mod Reply
 -- the reply to a lock, with the cycle of a deadlock
 pub mod Cycle
+-- the names that a transaction owns
+pub mod Holds
 -- what a service is answered
 pub mod Text
 -- what a run of a service reads and writes

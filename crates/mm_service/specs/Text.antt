@@ -1,26 +1,20 @@
 -- What a service is answered.
-use Rattle.std.specs.Prelude.{◌≡◌, ◌⊎◌, ◌↔◌, ⊤, ℕ, true, false, List, [], ◌∷◌, ◌++◌, length, Option, Some, Result, Ok, Err, codes, decimal}
-use Rattle.std.specs.Cmp.Lexicographic.{slice_cmp}
-use Rattle.std.specs.List.Sorted.{IsPermutation, IsSortedByKey}
-use Rattle.std.specs.Ordering.{nat_cmp}
+use Rattle.std.specs.Prelude.{◌≡◌, ◌↔◌, ⊤, ℕ, List, [], ◌∷◌, ◌++◌, length, Option, Some, Result, Ok, Err, codes, decimal}
 use Rattle.mm_arena.specs.declared.key.Key.{Key}
-use Rattle.mm_lists.specs.Members.{Among, NoRepeat}
-use Rattle.mm_names.specs.Names.{name_of}
-use Rattle.mm_rules.specs.TableState.{is_live, owner_of}
 use Rattle.mm_settled.specs.declared.reply.Grant.{Grant}
 use Rattle.mm_manager.specs.LockState.{LockState, Owns, IsLawful}
 use Rattle.mm_manager.specs.Reads.{HasStatus, waits_of}
 use Rattle.mm_manager.specs.declared.refusal.Refusal.{Refusal}
-use Rattle.mm_manager.specs.declared.refusal.Refusal.TheVariants.{NoTransaction}
 use Rattle.mm_manager.specs.declared.reply.Lock.{Lock}
 use Rattle.mm_manager.specs.declared.reply.Lock.TheVariants as locks
 use Rattle.mm_manager.specs.declared.reply.Status.{Status}
 use Rattle.mm_manager.specs.declared.reply.TryLock.{TryLock}
 use Rattle.mm_manager.specs.declared.reply.Wait.{Wait}
 use Rattle.mm_service.specs.Cycle.{lock_text}
+use Rattle.mm_service.specs.Holds.{HoldsText}
 use Rattle.mm_service.specs.Line.{line_of}
 use Rattle.mm_manager.specs.Made.{Begun, Locked, Tried, Unlocked, Committed, Aborted, Cancelled}
-use Rattle.mm_service.specs.Reply.{line_text, refusal_word, answer_text, begun_text, try_text, unlocked_text, committed_text, abort_text, cancel_text, owner_text, totals_text, status_text, granted_text, edge_text, name_at}
+use Rattle.mm_service.specs.Reply.{line_text, answer_text, begun_text, try_text, unlocked_text, committed_text, abort_text, cancel_text, owner_text, totals_text, status_text, granted_text, edge_text, name_at}
 use Rattle.mm_service.specs.declared.requests.KeyRequest.{KeyRequest}
 use Rattle.mm_service.specs.declared.requests.KeyRequest.TheVariants as of_key
 use Rattle.mm_service.specs.declared.effect.Effect.{Effect}
@@ -69,25 +63,6 @@ EndsNobody _ = ⊤
 
 -- ---- what is read
 
--- these are the numbers of the names that k owns, each once, in the order of the names' bytes
-pub record AreHeld (m : LockState) (k : Key) (numbers : List ℕ) : Type 0 where
-  pub held : List ℕ
-  pub holds : (name : List ℕ) → Owns m k name ↔ ((n : ℕ) × Among n held × (name_of m.names n ≡ Some name))
-  pub owned : (n : ℕ) → Among n held ↔ (owner_of m.table n ≡ Some k)
-  pub once : NoRepeat held
-  pub same : IsPermutation held numbers
-  pub sorted : IsSortedByKey (name_at m) (slice_cmp nat_cmp) numbers
-
-abbrev pub names_text : LockState → List ℕ → List ℕ
-names_text m [] = []
-names_text m (n ∷ ns) = codes " " ++ name_at m n ++ names_text m ns
-
--- the names that a transaction owns, if it is live
-abbrev pub HoldsText : LockState → Key → List ℕ → Type 0
-HoldsText m k out =
-    ((is_live m.table k ≡ true) × ((numbers : List ℕ) × AreHeld m k numbers × (out ≡ line_text (codes "holds" ++ names_text m numbers))))
-    ⊎ ((is_live m.table k ≡ false) × (out ≡ line_text (codes "refused " ++ refusal_word NoTransaction)))
-
 -- a line for each wait
 abbrev pub edge_lines : LockState → List Wait → List ℕ
 edge_lines m [] = []
@@ -121,7 +96,7 @@ abbrev pub Replies : Request → List ℕ → LockState → List ℕ → Effect 
 Replies requests.Begin name old reply effect new = (answer : Result Key Refusal) × Begun old answer new × (reply ≡ line_text (answer_text begun_text answer)) × (effect ≡ effects.Nothing)
 Replies (requests.OfName request k) name old reply effect new = RepliesName request k name old reply effect new
 Replies (requests.OfKey request k) name old reply effect new = RepliesKey request k old reply effect new
-Replies (requests.Holds k) name old reply effect new = HoldsText old k reply × (new ≡ old) × (effect ≡ effects.Nothing)
+Replies (requests.Holds k) from old reply effect new = HoldsText old k from reply × (new ≡ old) × (effect ≡ effects.Nothing)
 Replies requests.Owner name old reply effect new = OwnerText old name reply × (new ≡ old) × (effect ≡ effects.Nothing)
 Replies requests.Graph name old reply effect new = (reply ≡ graph_text old) × (new ≡ old) × (effect ≡ effects.Nothing)
 Replies requests.Totals name old reply effect new = (reply ≡ line_text (totals_text old.totals)) × (new ≡ old) × (effect ≡ effects.Nothing)

@@ -2,12 +2,14 @@
 ghost use Rattle.std.specs.Prelude.{◌≡◌, ◌≤◌, ◌+◌, ◌++◌, ℕ, List, MatchResult, OnOk, IsOkUnless};
 ghost use Rattle.arrayvec.specs.ArrayVec.{array_vec_len};
 ghost use Rattle.mm_lines.specs.Output.{Writes};
+ghost use Rattle.mm_service.specs.Holds.{HasRoom};
 ghost use Rattle.mm_service.specs.Text.{AnswersRequest, EndsNobody, Replies, RepliesKey, RepliesName, end_effect, lock_effect};
 
 use crate::cycle::write_lock;
 use crate::effect::Effect;
+use crate::holds::{Numbers, write_holds};
 use crate::line::{Asked, Request};
-use crate::lists::{Numbers, write_effect, write_graph, write_holds};
+use crate::lists::{write_effect, write_graph};
 use crate::reply::{
     MAX_NAMED, MAX_REPLY, print_abort, print_begun, print_cancel, print_committed, print_owner,
     print_status, print_totals, print_try, print_unlocked,
@@ -25,10 +27,12 @@ pub fn answer_request<W: Write>(
     output: &mut Output,
     writer: &mut W,
 ) -> Result<(), Fault>
-    requires { array_vec_len output.old + MAX_NAMED ≤ OUTPUT_LEN }
+    requires room { array_vec_len output.old + MAX_NAMED ≤ OUTPUT_LEN }
+    requires numbers { HasRoom manager.old numbers.old }
     ensures answered { (text : List ℕ) × (lost : List ℕ) × AnswersRequest asked.entry.request asked.entry.name.now manager.old text manager.new
         × Writes (W.contents writer.old) (W.contents writer.new) (output.old.items ++ text) lost × OnOk result (lost ≡ output.new.items) }
     ensures fault { IsOkUnless result Fault.Write }
+    ensures numbers { HasRoom manager.new numbers.new }
 {
     match make(manager, numbers, asked, output, writer) {
         Ok(effect) => write_effect(manager, effect, output, writer),
@@ -44,10 +48,12 @@ pub fn make<W: Write>(
     output: &mut Output,
     writer: &mut W,
 ) -> Result<Effect, Fault>
-    requires { array_vec_len output.old + MAX_NAMED ≤ OUTPUT_LEN }
+    requires room { array_vec_len output.old + MAX_NAMED ≤ OUTPUT_LEN }
+    requires numbers { HasRoom manager.old numbers.old }
     ensures replies { (text : List ℕ) × (effect : Effect) × (lost : List ℕ) × Replies asked.entry.request asked.entry.name.now manager.old text effect manager.new
         × Writes (W.contents writer.old) (W.contents writer.new) (output.old.items ++ text) lost × MatchResult result (λ it. (it ≡ effect) × (lost ≡ output.new.items)) (λ _. EndsNobody effect) }
     ensures fault { IsOkUnless result Fault.Write }
+    ensures numbers { HasRoom manager.new numbers.new }
 {
     match asked.request {
         Request::Begin => {
@@ -59,7 +65,7 @@ pub fn make<W: Write>(
         }
         Request::OfKey(request, key) => Ok(reply_of_key(manager, request, key, output)),
         Request::Holds(key) => {
-            write_holds(manager, numbers, output, key, writer)?;
+            write_holds(manager, numbers, key, asked.name, output, writer)?;
             Ok(Effect::Nothing)
         }
         Request::Owner => {

@@ -3,7 +3,7 @@ ghost use Rattle.std.specs.Prelude.{◌≡◌, ◌&&◌, nat_le, length, drop, o
 ghost use Rattle.std.specs.List.{list_all};
 ghost use Rattle.mm_lines.specs.WordsLeft.{words_left, first_spells};
 ghost use Rattle.mm_service.specs.Forms.{request_by, request_of, is_name_byte, name_of_word};
-ghost use Rattle.mm_service.specs.private.Forms.{asked_for, request_before};
+ghost use Rattle.mm_service.specs.private.Forms.{asked_for, name_if_any, request_before};
 
 use crate::line::{Asked, Request};
 use crate::reply::MAX_NAME;
@@ -37,7 +37,14 @@ fn read<'a>(form: Form, arguments: &mut Words<'a>) -> Option<Asked<'a>>
             let key = arguments.next_key()?;
             Some(nameless(Request::OfKey(request, key)))
         }
-        Form::Holds => Some(nameless(Request::Holds(arguments.next_key()?))),
+        Form::Holds => {
+            let key = arguments.next_key()?;
+            let name = next_name_if_any(arguments)?;
+            Some(Asked {
+                request: Request::Holds(key),
+                name,
+            })
+        }
         Form::KeyAndName(request) => {
             let key = arguments.next_key()?;
             let name = next_name(arguments)?;
@@ -70,6 +77,17 @@ fn next_name<'a>(arguments: &mut Words<'a>) -> Option<&'a [u8]>
 {
     let word = arguments.next()?;
     is_name(word).then_some(word)
+}
+
+/// Returns the name that the next word is, or no bytes if there is no word.
+fn next_name_if_any<'a>(arguments: &mut Words<'a>) -> Option<&'a [u8]>
+    ensures taken { option_copied result ≡ name_if_any (words_left arguments.old) }
+    ensures left { words_left arguments.new ≡ drop 1 (words_left arguments.old) }
+{
+    match arguments.next() {
+        Some(word) => is_name(word).then_some(word),
+        None => Some(&[]),
+    }
 }
 
 /// Returns whether a word can be a name.

@@ -4,7 +4,7 @@
 //! - `requests`: the words of the requests. `forms`: the request that the words of a line make.
 //! - `calls`: makes a request, and writes its reply and what it caused for others. `effect`: what it comes to beside its reply.
 //! - `cycle`: the reply to a lock, and the cycle of waits that a request would have closed, as it is told.
-//! - `lists`: the replies that list something: names that are held, the wait-for graph, and what a request caused.
+//! - `holds`: the names that a transaction owns. `lists`: the wait-for graph, and what a request caused.
 //! - `reply`: how replies are printed.
 //! - `lock_service`: `LockService`, what callers open and run.
 //! - `laws`: the cycle that is told is one.
@@ -16,6 +16,7 @@ mod calls;
 mod cycle;
 mod effect;
 mod forms;
+mod holds;
 mod laws;
 mod line;
 mod lists;
@@ -27,9 +28,10 @@ pub use calls::make;
 pub use cycle::{MAX_PAIRS, Walk, print_pair, write_cycle};
 pub use effect::Effect;
 pub use forms::is_name;
+pub use holds::{MAX_PART, Numbers, write_holds};
 pub use laws::cycle_is_told;
 pub use line::{Asked, Line, MAX_REQUEST, Named, Request, request_line};
-pub use lists::{Numbers, count_waits, list_held, print_told, write_list};
+pub use lists::{count_waits, print_told};
 pub use lock_service::LockService;
 pub use mm_lines::Fault as ServiceFault;
 pub use mm_manager::{ManagerConfig, OpenError};

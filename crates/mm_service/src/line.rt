@@ -33,7 +33,7 @@ pub enum Request {
     OfName(NameRequest, Key),
     /// Of a transaction.
     OfKey(KeyRequest, Key),
-    /// Of a transaction: the names that it owns are listed.
+    /// Of a transaction: the names that it owns are told, those after the name that stands beside it, or from the first one on.
     Holds(Key),
     /// Of a name: its owner is read.
     Owner,

@@ -5,8 +5,8 @@ ghost use Rattle.mm_manager.specs.Opening.{opening_state, IsTransactionsOut, IsN
 ghost use Rattle.mm_service.specs.Service.{Ends};
 
 use crate::calls::answer_request;
+use crate::holds::Numbers;
 use crate::line::{Asked, Line, MAX_LINE, line_of};
-use crate::lists::Numbers;
 use crate::reply::{MAX_NAMED, print_line};
 use crate::{ManagerConfig, OpenError, ServiceFault};
 use mm_lines::{Answerer, Limits, Output, serve};
@@ -24,16 +24,20 @@ pub struct LockService {
 
 impl Model for LockService {
     ghost use Rattle.mm_manager.specs.LockState.{LockState};
+    ghost use Rattle.mm_service.specs.Holds.{HasRoom};
 
     ghost Value = { LockState };
 
     ghost view = { λ it. it.manager };
+
+    ghost invariant = { λ it. HasRoom it.manager it.numbers };
 }
 
 impl LockService {
     /// Returns a service of this configuration: no transaction is live, and nobody owns a name.
     ///
-    /// Refused as `LockManager::open` is. This is the one call that takes memory: that of the manager, and 256 KiB.
+    /// Refused as `LockManager::open` is. This is the one call that takes memory: that of the manager, 4 bytes for each of `config.names`, and
+    /// 4 KiB.
     pub fn open(alloc: Global, config: ManagerConfig) -> Result<LockService, OpenError>
         ensures opened { IfOk result (λ service. service ≡ opening_state config) }
         ensures transactions { (result ≡ Err OpenError.Transactions) ↔ IsTransactionsOut config }
@@ -41,7 +45,7 @@ impl LockService {
         ensures name_bytes { (result ≡ Err OpenError.NameBytes) ↔ (¬ IsTransactionsOut config × ¬ IsNamesOut config × IsNameBytesOut config) }
     {
         let manager = LockManager::open(alloc, config)?;
-        let numbers = Numbers::new(alloc)?;
+        let numbers = Numbers::new(alloc, config.names)?;
         Ok(LockService { manager, numbers })
     }
 

@@ -13,7 +13,7 @@ pub enum Form {
     Begin,
     /// `K`: a key.
     Key(KeyRequest),
-    /// `K`: a key, of which the names are listed that it owns.
+    /// `K` or `K FROM`: a key of which the names are told that it owns, and the name after which they begin.
     Holds,
     /// `K NAME`: a key and a name.
     KeyAndName(NameRequest),

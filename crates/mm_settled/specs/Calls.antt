@@ -9,7 +9,7 @@ use Rattle.mm_rules.specs.declared.refusal.Refusal.TheVariants.{CountsExhausted}
 use Rattle.mm_rules.specs.declared.reply.Acquired.TheVariants as acquired
 use Rattle.mm_rules.specs.declared.reply.Settled.{Settled}
 use Rattle.mm_rules.specs.TableState.{TableState, has_verdict, owner_of, wait_of}
-use Rattle.mm_rules.specs.Event.{Event, Acquire, Settle, Answer, Step, Opens}
+use Rattle.mm_rules.specs.Event.{Event, Acquire, Settle, Answer, Step, OpensWide}
 use Rattle.mm_rules.specs.Change.{take_back}
 use Rattle.mm_rules.specs.TakeBack.{LeadsTo, IsSameButLabels}
 use Rattle.mm_rules.specs.Withdraw.{Withdraws}
@@ -99,7 +99,7 @@ IsDeadlock (Err refusal) = false
 
 -- ---- open
 
--- a settled table is opened as a table is, and tells of nobody
+-- a settled table is opened as a table is that is opened wide, and tells of nobody
 abbrev pub OpensSettled : Config → Result SettledState Refusal → Type 0
-OpensSettled c (Ok s) = Opens c (Ok s.table) × (s.granted ≡ [])
-OpensSettled c (Err refusal) = Opens c (Err refusal)
+OpensSettled c (Ok s) = OpensWide c (Ok s.table) × (s.granted ≡ [])
+OpensSettled c (Err refusal) = OpensWide c (Err refusal)

@@ -2,7 +2,8 @@ ghost use Rattle.std.specs.Prelude.{◌≡◌, ◌↔◌, ◌<◌, ◌^◌, ℕ,
 ghost use Rattle.mm_rules.specs.Event.{Step, Begin, Release, Finish, allowed, resource_tests};
 ghost use Rattle.mm_settled.specs.declared.reply.Locked.TheVariants as Locked;
 ghost use Rattle.mm_lists.specs.Members.{Among, NoRepeat};
-ghost use Rattle.mm_rules.specs.TableState.{owner_of};
+ghost use Rattle.mm_rules.specs.Adopt.{Adopts};
+ghost use Rattle.mm_rules.specs.TableState.{is_live, owner_of};
 ghost use Rattle.mm_rules.specs.Laws.{Laws, AtRest};
 ghost use Rattle.mm_rules.specs.TakeBack.{HasNoVictim, NobodyWaitsForItself, WouldClose};
 ghost use Rattle.mm_settled.specs.Calls.{OpensSettled, Locks, IsDeadlock, Makes, MakesWithdrawal};
@@ -52,12 +53,12 @@ impl SettledTable {
     /// Returns a table of this configuration, which has no transaction, and in which no resource has an owner.
     ///
     /// Refused as `BadConfig` exactly if a number is out of its range, and as `Memory` only if a request for memory was
-    /// refused. This is the one call that takes memory: what `Table::open` takes, for each process 16 bytes, and for each
+    /// refused. This is the one call that takes memory: what `Table::open_wide` takes, for each process 16 bytes, and for each
     /// resource 4 bytes and a bit more.
     pub fn open(alloc: Global, config: Config) -> Result<SettledTable, Refusal>
         ensures { OpensSettled config result }
     {
-        let table = Table::open(alloc, config)?;
+        let table = Table::open_wide(alloc, config)?;
         let lists = Lists::open(alloc, config)?;
         Ok(SettledTable {
             parts: Parts { table, lists },
@@ -81,6 +82,19 @@ impl SettledTable {
                 Err(refusal)
             }
         }
+    }
+
+    /// Makes a live transaction, also one that waits, the owner of a resource that nobody owns, as `Table::adopt` does. The table stays at
+    /// rest, and what was listed stays listed.
+    pub fn adopt(&mut self, key: Key, resource: u32)
+        requires live { IsTrue (is_live self.old.table key) }
+        requires resource { resource < self.old.table.config.resources }
+        requires free { owner_of self.old.table resource ≡ None }
+        ensures adopts { Adopts key resource self.old.table self.new.table }
+        ensures granted { self.new.granted ≡ self.old.granted }
+    {
+        self.parts.table.keeps_laws();
+        self.parts.table.adopt(key, resource);
     }
 
     /// Asks for a resource, and is told at once what comes of it.

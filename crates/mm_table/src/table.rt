@@ -1,9 +1,10 @@
 ghost use Rattle.std.specs.Prelude.{◌≡◌, ◌≢◌, ◌≤◌, ◌<◌, ◌^◌, ◌↔◌, ◌||◌, ℕ, Ok, Some, false, IsTrue, length, replicate, IfOk, IfErr, IfSome, IfNone, None, OnOk, vec_capacity};
 ghost use Rattle.mm_lists.specs.Members.{Among, NoRepeat};
 ghost use Rattle.mm_bit_set.specs.BitSet.{has, members};
-ghost use Rattle.mm_rules.specs.TableState.{is_live, has_verdict, owner_of, public_of, holder_of, wait_of};
+ghost use Rattle.mm_rules.specs.Adopt.{Adopts};
+ghost use Rattle.mm_rules.specs.TableState.{IsWide, is_live, has_verdict, opening, owner_of, public_of, holder_of, wait_of};
 ghost use Rattle.mm_rules.specs.Change.{take_back};
-ghost use Rattle.mm_rules.specs.Event.{Opens, Step, Begin, Acquire, Release, Finish, Transmit, Detect, Abort, GiveUp, Settle, allowed, resource_tests, state_of, owner_told, tenant_of};
+ghost use Rattle.mm_rules.specs.Event.{Opens, OpensWide, Step, Begin, Acquire, Release, Finish, Transmit, Detect, Abort, GiveUp, Settle, allowed, resource_tests, state_of, owner_told, tenant_of};
 ghost use Rattle.mm_rules.specs.declared.reply.Acquired.TheVariants as Acquired;
 ghost use Rattle.mm_rules.specs.Laws.{Laws, AtRest, HasSoundVerdicts};
 ghost use Rattle.mm_rules.specs.Withdraw.{Withdraws};
@@ -63,6 +64,28 @@ impl Table {
     pub fn open(alloc: Global, config: Config) -> Result<Table, Refusal>
         ensures { Opens config result }
     {
+        if !config.is_in_range() {
+            return Err(Refusal::BadConfig);
+        }
+        Table::open_in_range(alloc, config)
+    }
+
+    /// `open`, of a table with up to 16,777,216 resources.
+    pub fn open_wide(alloc: Global, config: Config) -> Result<Table, Refusal>
+        ensures { OpensWide config result }
+    {
+        if !config.is_wide() {
+            return Err(Refusal::BadConfig);
+        }
+        Table::open_in_range(alloc, config)
+    }
+
+    /// `open_wide`, if each number is in its range: only a request for memory can be refused.
+    fn open_in_range(alloc: Global, config: Config) -> Result<Table, Refusal>
+        requires { IsWide config }
+        ensures opened { IfOk result (λ table. table ≡ opening config) }
+        ensures memory { IfErr result (λ refusal. refusal ≡ Refusal.Memory) }
+    {
         let records = Records::open(alloc, config)?;
         let Ok(sets) = Sets::open(alloc, config.processes) else {
             return Err(Refusal::Memory);
@@ -103,6 +126,18 @@ impl Table {
     {
         self.keeps_laws();
         self.records.grant_free(key, resource);
+    }
+
+    /// Makes a live transaction, also one that waits, the owner of a resource that nobody owns. It is no event, so nothing is counted: nobody
+    /// waits for the resource, so no wait, no label and no verdict changes. Constant time.
+    pub fn adopt(&mut self, key: Key, resource: u32)
+        requires live { IsTrue (is_live self.old key) }
+        requires resource { resource < self.old.config.resources }
+        requires free { owner_of self.old resource ≡ None }
+        ensures { Adopts key resource self.old self.new }
+    {
+        self.keeps_laws();
+        self.records.grant(key, resource);
     }
 
     /// Hands the resource over: the longest waiter owns it from now on, and each other waiter keeps its place and gets a fresh

@@ -7,6 +7,7 @@ use Rattle.std.proofs.lemmas.List.{length-map, length-set, map-set, set-get_or}
 use Rattle.std.proofs.lemmas.Option.{slice_get-map, slice_get_within, slice_get-get_or, get_or_from_slice_get, same_Some}
 use Rattle.mm_lists.proofs.Lemmas.Set.{slice_get-set_same, slice_get-set_other}
 use Rattle.mm_lists.specs.Members.{Among}
+use Rattle.mm_thin.specs.declared.worker.TheConstants.{PLACES, RECORDS}
 use Rattle.mm_thin.specs.declared.views.RecordView.{RecordView}
 use Rattle.mm_thin.specs.declared.reply.GiveUp.{GiveUp}
 use Rattle.mm_thin.specs.declared.reply.GiveUp.TheVariants.{Done, NotTaken}
@@ -53,15 +54,15 @@ pub set_still : (ps : List RecordState) (k : ℕ) (old new : RecordState) → sl
 set_still ps k old new is same = ap (set ps k) (same ∙ sym (get_or_from_slice_get ps k old old is)) ∙ set-get_or ps k old
 
 -- after one place changes, those from another place on have taken nothing
-used_set : (of : Opening) (at : ℕ) (ps : List RecordState) (k : ℕ) (new : RecordState) (used used' : ℕ) → AreUsed of at ps used → ArePlaced of at (set ps k new) → k < 8 → used' ≤ 8 → (used' ≤ k → new.1.taken ≡ [])
+used_set : (of : Opening) (at : ℕ) (ps : List RecordState) (k : ℕ) (new : RecordState) (used used' : ℕ) → AreUsed of at ps used → ArePlaced of at (set ps k new) → k < PLACES → used' ≤ PLACES → (used' ≤ k → new.1.taken ≡ [])
     → ((j : ℕ) → used' ≤ j → j ≢ k → used ≤ j) → AreUsed of at (set ps k new) used'
 used_set of at ps k new used used' was placed low within here others = record {
   placed = placed;
-  eight = (let size = length-set ps k new in let eight = was.eight in omega arith);
+  full = (let size = length-set ps k new in let full = was.full in omega arith);
   within = within;
   rest = λ j p above at_j. elim (cases_eq j k) [
     | inl same ↦
-        let eight = was.eight in
+        let full = was.full in
         let now : new ≡ p = same_Some new p (sym (slice_get-set_same ps k new (omega arith)) ∙ ap (slice_get (set ps k new)) (sym same) ∙ at_j) in
         subst (λ (x : RecordState). x.1.taken ≡ []) now (here (omega arith))
     | inr apart ↦ was.rest j p (others j above apart) (sym (slice_get-set_other ps j k new apart) ∙ at_j)
@@ -78,9 +79,9 @@ used_seen of at ps used was k r above is =
     ap (λ (x : RecordView). x.taken) (sym (seen_only ps k p r there is)) ∙ was.rest k p above there
 
 -- the first of those is idle
-pub idle_at : (of : Opening) (at : ℕ) (ps : List RecordState) (used : ℕ) → AreUsed of at ps used → used < 8 → (r : RecordView) × (slice_get (seen ps) used ≡ Some r) × (r.taken ≡ [])
+pub idle_at : (of : Opening) (at : ℕ) (ps : List RecordState) (used : ℕ) → AreUsed of at ps used → used < PLACES → (r : RecordView) × (slice_get (seen ps) used ≡ Some r) × (r.taken ≡ [])
 idle_at of at ps used was low =
-    let eight = was.eight in
+    let full = was.full in
     let p = get_or ps used (of.table, new_record 0) in
     let there = slice_get-get_or ps used (of.table, new_record 0) (omega arith) in
     (p.1, seen_at ps used p there, was.rest used p (omega arith) there)
@@ -138,7 +139,7 @@ module _ (of : Opening) (at : ℕ) (ps : List RecordState) (k : ℕ) (old new : 
   pub left_used : (g : GiveUp) → LeavesBucket old.1 g new.1 → (used used' : ℕ) → AreUsed of at ps used → (used' ≡ used) ⊎ ((g ≢ given.Changed) × (used ≡ k + 1) × (used' ≡ k)) → AreUsed of at (set ps k new) used'
   left_used g left used used' was how =
       let low : k < length ps = slice_get_within ps k old is in
-      let eight = was.eight in
+      let full = was.full in
       let within = was.within in
       let placed = placed_set was.placed (left_number g left) (left_place g left) in
       elim how [
@@ -169,9 +170,9 @@ module _ (of : Opening) (at : ℕ) (ps : List RecordState) (k : ℕ) (old new : 
     pub took_used : (word : ℕ) → TakesBucket old.1 bucket name (nat_eq word 0) new.1 → (used used' : ℕ) → AreUsed of at ps used → (used' ≡ used) ⊎ (used' ≡ k + 1) → used ≤ used' → (word ≡ 0 → k < used') → AreUsed of at (set ps k new) used'
     took_used word took used used' was one more taken =
         let low : k < length ps = slice_get_within ps k old is in
-        let eight = was.eight in
+        let full = was.full in
         let within = was.within in
-        let small : used' ≤ 8 = elim one [ inl same ↦ omega arith | inr next ↦ omega arith ] in
+        let small : used' ≤ PLACES = elim one [ inl same ↦ omega arith | inr next ↦ omega arith ] in
         let placed = placed_set was.placed (taken_number (nat_eq word 0) took) (taken_place (nat_eq word 0) took) in
         used_set of at ps k new used used' was placed (omega arith) small
         (λ above. idle_unless (nat_eq word 0) took (λ (so : nat_eq word 0 ≡ true). (let zero_is : word ≡ 0 = eqb-true word 0 so in let below = taken zero_is in omega arith)))
@@ -212,8 +213,8 @@ still_used of at ps k used old new below is same was = subst (λ xs. AreUsed of 
 pub other_numbers : (at at' m n : ℕ) → IsOfWorker at m → IsOfWorker at' n → at ≢ at' → m ≢ n
 other_numbers at at' m n one other differ same = differ (let l = one.0 in let h = one.1 in let l' = other.0 in let h' = other.1 in omega arith)
 
--- eight new records after the first two of ten are placed
-new_placed : (of : Opening) (at : ℕ) (before : TableId × DeskView) (ps : List RecordState) → AreNew before 8 ps → before.0 ≡ of.table → before.1.records ≡ at * 10 + 2 → ArePlaced of at ps
+-- new records after the first two of a worker are placed
+new_placed : (of : Opening) (at : ℕ) (before : TableId × DeskView) (ps : List RecordState) → AreNew before PLACES ps → before.0 ≡ of.table → before.1.records ≡ at * RECORDS + 2 → ArePlaced of at ps
 new_placed of at before ps new table first k p is =
     let low : k < length ps = slice_get_within ps k p is in
     let size = new.0 in
@@ -221,10 +222,10 @@ new_placed of at before ps new table first k p is =
     let number : p.1.number ≡ before.1.records + k = ap (λ (x : RecordState). x.1.number) same in
     (ap (λ (x : RecordState). x.0) same ∙ table, (omega arith, omega arith), λ b among. absurd (subst (λ (x : RecordState). Among b x.1.taken) same among))
 
-pub new_used : (of : Opening) (at : ℕ) (before : TableId × DeskView) (ps : List RecordState) → AreNew before 8 ps → before.0 ≡ of.table → before.1.records ≡ at * 10 + 2 → AreUsed of at ps 0
+pub new_used : (of : Opening) (at : ℕ) (before : TableId × DeskView) (ps : List RecordState) → AreNew before PLACES ps → before.0 ≡ of.table → before.1.records ≡ at * RECORDS + 2 → AreUsed of at ps 0
 new_used of at before ps new table first = record {
   placed = new_placed of at before ps new table first;
-  eight = new.0;
+  full = new.0;
   within = omega arith;
   rest = λ k p above is. ap (λ (x : RecordState). x.1.taken) (new.1 k p is);
 }

@@ -1,6 +1,7 @@
 -- What the calls answer.
 use Rattle.std.specs.Prelude.{◌≡◌, ◌≢◌, ◌⊎◌, ◌<◌, ◌≤◌, ◌+◌, ℕ, Bool, true, false, List, [], length, slice_get, slice_set, Some}
 use Rattle.mm_lists.specs.Members.{Among}
+use Rattle.mm_thin.specs.declared.worker.TheConstants.{PLACES}
 use Rattle.mm_thin.specs.declared.views.Lent.{Lent}
 use Rattle.mm_thin.specs.declared.views.DeskView.{DeskView}
 use Rattle.mm_thin.specs.declared.views.RecordView.{RecordView}
@@ -44,11 +45,11 @@ GetsBucket d bucket WasFree after = (after ≡ with_fat d bucket) × (Among buck
 GetsBucket d bucket (WasThin number name) after = (after ≡ with_lent d bucket number name) × (Among bucket d.fat → ⊥)
 GetsBucket d bucket Changed after = (after ≡ d) × (Among bucket d.fat → ⊥)
 
--- it makes a worker: of its words, with the next number, eight records that have taken nothing
+-- it makes a worker: of its words, with the next number, and records that have taken nothing
 pub record AddsWorker (old : OfficeState) (w : WorkerState) (new : OfficeState) : Type 0 where
   pub of : w.of ≡ old.of
   pub at : w.at ≡ old.workers
-  pub eight : length w.records ≡ 8
+  pub full : length w.records ≡ PLACES
   pub idle : (k : ℕ) (r : RecordView) → slice_get w.records k ≡ Some r → r.taken ≡ []
   pub office : (new.of ≡ old.of) × (new.desk.fat ≡ old.desk.fat) × (new.desk.lent ≡ old.desk.lent)
   pub more : (new.workers ≡ old.workers + 1) × (new.max_workers ≡ old.max_workers)

@@ -2,6 +2,7 @@
 use Rattle.std.specs.Prelude.{◌≡◌, Bool, true, false, ℕ, ◌+◌, ◌*◌, ◌<◌, ◌≤◌, List, [], ◌∷◌, length, slice_get, slice_index, Some}
 use Rattle.atomic_table.specs.Seated.{TableId}
 use Rattle.mm_lists.specs.Members.{Among}
+use Rattle.mm_thin.specs.declared.worker.TheConstants.{PLACES, RECORDS}
 use Rattle.mm_thin.specs.declared.views.Part.{Part}
 use Rattle.mm_thin.specs.declared.spread.Spread.{Spread}
 use Rattle.mm_thin.specs.Spread.{bucket_by}
@@ -62,19 +63,19 @@ pub record WorkerState : Type 0 where
 abbrev pub IsPlaced : Opening → RecordView → Type 0
 IsPlaced of r = (b : ℕ) → Among b r.taken → b ≡ bucket_of of r.name
 
--- a worker has ten records, of which it uses eight
+-- a worker has so many records, of which it uses all but the first two
 abbrev pub IsOfWorker : ℕ → ℕ → Type 0
-IsOfWorker at number = (at * 10 ≤ number) × (number < at * 10 + 10)
+IsOfWorker at number = (at * RECORDS ≤ number) × (number < at * RECORDS + RECORDS)
 
 -- each record is of these words and of this worker, and has taken no bucket but that of its name
 abbrev pub ArePlaced : Opening → ℕ → List RecordState → Type 0
 ArePlaced of at records = (k : ℕ) (p : RecordState) → slice_get records k ≡ Some p → (p.0 ≡ of.table) × IsOfWorker at p.1.number × IsPlaced of p.1
 
--- the same of eight records, of which those from this place on have taken nothing
+-- the same of the records that a worker uses, of which those from this place on have taken nothing
 pub record AreUsed (of : Opening) (at : ℕ) (records : List RecordState) (used : ℕ) : Type 0 where
   pub placed : ArePlaced of at records
-  pub eight : length records ≡ 8
-  pub within : used ≤ 8
+  pub full : length records ≡ PLACES
+  pub within : used ≤ PLACES
   pub rest : (k : ℕ) (p : RecordState) → used ≤ k → slice_get records k ≡ Some p → p.1.taken ≡ []
 
 -- ---- the office
@@ -102,10 +103,10 @@ with_desk o d = record o { desk = d }
 abbrev pub AreNew : TableId × DeskView → ℕ → List RecordState → Type 0
 AreNew before n made = (length made ≡ n) × ((k : ℕ) (p : RecordState) → slice_get made k ≡ Some p → p ≡ (before.0, new_record (before.1.records + k)))
 
--- the part is of these words, and there are ten records a worker, and texts for all that there can be and two more
+-- the part is of these words, and there are so many records a worker, and texts for all that there can be and two more
 abbrev pub IsOffice : Opening → TableId × DeskView → ℕ → ℕ → Type 0
 IsOffice of desk workers max_workers =
-    (desk.0 ≡ of.table) × (desk.1.records ≡ workers * 10) × (workers ≤ max_workers) × (max_workers ≤ 65536) × (of.table.slots ≡ max_workers * 10 + 2)
+    (desk.0 ≡ of.table) × (desk.1.records ≡ workers * RECORDS) × (workers ≤ max_workers) × (max_workers ≤ 65536) × (of.table.slots ≡ max_workers * RECORDS + 2)
 
 -- this many words and texts, and an office that knows of nothing
 abbrev pub IsOpened : Spread → ℕ → ℕ → Opening → TableId × DeskView → Type 0

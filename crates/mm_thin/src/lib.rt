@@ -25,4 +25,4 @@ pub use rule::WordsRule;
 pub use spread::Spread;
 pub use text::{MAX_THIN_BYTES, Text};
 pub use views::{DeskView, Lent, Part, RecordView, View};
-pub use worker::{PLACES, Worker};
+pub use worker::{PLACES, RECORDS, Worker};

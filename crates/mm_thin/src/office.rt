@@ -86,7 +86,7 @@ impl Office {
         self.desk.free(self.buckets.steps(), bucket);
     }
 
-    /// Returns a worker more. It takes memory: for its eight records, and for one place behind them, so that no other worker's part lies near.
+    /// Returns a worker more. It takes memory: for its records, and for one place behind them, so that no other worker's part lies near.
     ///
     /// Refused as `Full` exactly if there are as many workers as there can be, and then nothing changes, and as `Memory` only if a
     /// request for memory was refused.
@@ -107,7 +107,7 @@ impl Office {
     fn worker_of(&mut self, buckets: Buckets, mut places: Vec<Place>) -> Worker
         requires of { buckets ≡ self.old.of }
         requires empty { places.items ≡ [] }
-        requires room { 8 ≤ vec_capacity places }
+        requires room { PLACES ≤ vec_capacity places }
         requires more { self.old.workers < self.old.max_workers }
         ensures { AddsWorker self.old result self.new }
     {
@@ -125,17 +125,17 @@ impl Office {
     }
 }
 
-/// Eight records more, which have taken nothing.
+/// The records of one more worker, which have taken nothing.
 fn fill(desk: &mut DeskPart, steps: &Steps, places: &mut Vec<Place>)
     requires table { desk.old.0 ≡ steps.now.table_id }
     requires key { steps.now.key ≡ steps.now.table_id.words }
     requires some { 0 < steps.now.table_id.words }
-    requires slots { desk.old.1.records + 8 ≤ steps.now.table_id.slots }
-    requires small { desk.old.1.records + 8 < 2 ^ 32 }
+    requires slots { desk.old.1.records + PLACES ≤ steps.now.table_id.slots }
+    requires small { desk.old.1.records + PLACES < 2 ^ 32 }
     requires empty { places.old.items ≡ [] }
-    requires room { 8 ≤ vec_capacity places.old }
-    ensures made { AreNew desk.old 8 places.new.items }
-    ensures desk { desk.new ≡ (desk.old.0, with_records desk.old.1 (desk.old.1.records + 8)) }
+    requires room { PLACES ≤ vec_capacity places.old }
+    ensures made { AreNew desk.old PLACES places.new.items }
+    ensures desk { desk.new ≡ (desk.old.0, with_records desk.old.1 (desk.old.1.records + PLACES)) }
 {
     for _ in 0..PLACES {
         places.push_reserved(Place::of(desk.add_record(steps)));

@@ -7,6 +7,7 @@ use crate::config::{OpenError, ThinConfig};
 use crate::office::Office;
 use crate::spread::Spread;
 use crate::text::MAX_THIN_BYTES;
+use crate::worker::{RECORDS, SPARE};
 use mm_names::NameHash;
 use std::alloc::Global;
 
@@ -14,7 +15,7 @@ impl Office {
     /// Returns an office of this configuration, with no worker: all buckets are free.
     ///
     /// Refused as `Buckets` or else as `Workers` exactly if that number of the configuration is out of its range, and as `Memory` only
-    /// if a request for memory was refused. It takes 8 bytes a bucket, and 640 a worker and 128 more. While it is opened it takes as
+    /// if a request for memory was refused. It takes 8 bytes a bucket, and 1,152 a worker and 128 more. While it is opened it takes as
     /// much again.
     pub fn open(alloc: Global, config: ThinConfig) -> Result<Office, OpenError>
         ensures opened { IfOk result (λ office. Opens config office) }
@@ -28,7 +29,7 @@ impl Office {
             return Err(OpenError::Workers);
         }
         let bytes = (config.name_bytes as usize).min(MAX_THIN_BYTES);
-        let texts = config.workers as usize * 10 + 2;
+        let texts = config.workers as usize * RECORDS + SPARE;
         let spread = Spread {
             hash: NameHash::new(config.seed),
             buckets: u64::from(config.buckets),

@@ -1,5 +1,5 @@
 //! A record with what it has taken, so that its owner can read it.
-ghost use Rattle.std.specs.Prelude.{◌≡◌, ◌≢◌, ◌≤◌, ◌<◌, ◌↔◌, [], length, IsTrue, IfSome, IfNone, nat_eq};
+ghost use Rattle.std.specs.Prelude.{◌≡◌, ◌≢◌, ◌≤◌, ◌<◌, ◌↔◌, [], length, IsTrue, nat_eq};
 ghost use Rattle.mm_thin.specs.Calls.{TakesBucket, LeavesBucket, IsFor, AreLent, AreApart};
 
 use crate::desk_part::DeskPart;
@@ -62,18 +62,6 @@ impl Place {
         ensures { IsTrue result ↔ IsFor self.now.1 name.now }
     {
         self.is_taken && self.name.as_slice() == name
-    }
-
-    /// Returns the name that it has taken.
-    pub(crate) fn taken(&self) -> Option<&[u8]>
-        ensures some { IfSome result (λ name. IsFor self.now.1 name.now) }
-        ensures none { IfNone result (self.now.1.taken ≡ []) }
-    {
-        if self.is_taken {
-            Some(self.name.as_slice())
-        } else {
-            None
-        }
     }
 
     /// Takes a bucket for this name, if it is free. Returns the word that it found: 0 if the bucket was free.

@@ -9,9 +9,16 @@ use crate::reply::{GiveUp, Take};
 use std::marker::Model;
 
 /// How many names a worker can have taken at once.
-pub const PLACES: usize = 8;
+pub const PLACES: usize = 16;
 
-/// A transaction's part of the words: eight records, and the list of what they have taken. A contract sees a `WorkerState`.
+/// How many records of a worker are never used: they keep the texts of two workers 128 bytes apart.
+pub(crate) const SPARE: usize = 2;
+
+/// How many records there are for each worker: that of a number is of the worker with this number divided by it.
+pub const RECORDS: usize = PLACES + SPARE;
+
+/// A transaction's part of the words: a record for each name that it can have taken, and the list of what they have taken. A contract sees a
+/// `WorkerState`.
 #[derive(Drop)]
 pub struct Worker {
     pub(crate) buckets: Buckets,
@@ -38,13 +45,6 @@ impl Worker {
         ensures { result ≡ self.now.at }
     {
         self.at
-    }
-
-    /// Returns how many records it has: eight.
-    pub fn places(&self) -> usize
-        ensures { result ≡ length self.now.records }
-    {
-        self.places.len()
     }
 
     /// Returns a record that has taken nothing.
@@ -84,17 +84,6 @@ impl Worker {
             }
         }
         None
-    }
-
-    /// Returns the name that this record has taken.
-    pub fn taken(&self, k: usize) -> Option<&[u8]>
-        ensures some { IfSome result (λ name. (r : RecordView) × (slice_get self.now.records k ≡ Some r) × IsFor r name.now) }
-        ensures none { IfNone result ((r : RecordView) → slice_get self.now.records k ≡ Some r → r.taken ≡ []) }
-    {
-        if k >= self.places.len() {
-            return None;
-        }
-        self.places[k].taken()
     }
 
     /// Takes a name, if its bucket is free. One compare-and-swap.
@@ -173,7 +162,7 @@ impl Worker {
 /// From which place on all have taken nothing, after place k found this word.
 #[inline(always)]
 fn used_with(used: usize, k: usize, word: u64) -> usize
-    requires { k < 8 }
+    requires { k < PLACES }
     ensures one { (result ≡ used) ⊎ (result ≡ k + 1) }
     ensures more { used ≤ result }
     ensures taken { word ≡ 0 → k < result }
@@ -184,7 +173,7 @@ fn used_with(used: usize, k: usize, word: u64) -> usize
 /// The same after place k gave up what it had.
 #[inline(always)]
 fn used_without(used: usize, k: usize, given: GiveUp) -> usize
-    requires { k < 8 }
+    requires { k < PLACES }
     ensures { (result ≡ used) ⊎ ((given ≢ GiveUp.Changed) × (used ≡ k + 1) × (result ≡ k)) }
 {
     match given {

@@ -9,7 +9,6 @@ use Rattle.mm_manager.specs.declared.reply.Lock.{Lock}
 use Rattle.mm_manager.specs.declared.reply.Lock.TheVariants as lock
 use Rattle.mm_manager.specs.declared.reply.TryLock.{TryLock}
 use Rattle.mm_manager.specs.declared.reply.TryLock.TheVariants as trylock
-use Rattle.mm_thin.specs.Parts.{WorkerState}
 use Rattle.mm_desk.specs.Desk.{DeskState}
 use Rattle.mm_desk.specs.Calls.{AsksAt, AsksNamed, TriesAt, TriesNamed, asked_of, tried_of}
 use Rattle.mm_desk.specs.declared.reply.Asked.TheVariants as asked
@@ -32,26 +31,26 @@ held_by old k name (Ok (lock.Waits h)) new locks is = absurd (cc)
 held_by old k name (Ok (lock.Deadlock h)) new locks is = absurd (cc)
 held_by old k name (Err refusal) new locks is = absurd (cc)
 
-module _ (old : DeskState) (w : WorkerState) (name : List ℕ) (new : DeskState) where
-  granted_named : AsksNamed old w name (Ok asked.Granted) new → OwnsAt new w.at name
-  granted_named (inl made) = subst (λ (d : DeskState). OwnsAt d w.at name) (sym made.3.4) (elim made.3.1 [
+module _ (old : DeskState) (at : ℕ) (name : List ℕ) (new : DeskState) where
+  granted_named : AsksNamed old at name (Ok asked.Granted) new → OwnsAt new at name
+  granted_named (inl made) = subst (λ (d : DeskState). OwnsAt d at name) (sym made.2.4) (elim made.2.1 [
     | inl none ↦ absurd (cc)
-    | inr told ↦ (told.0, ap (λ ks. slice_get ks w.at) made.3.3 ∙ told.2, granted_by made.0.manager told.0 name told.1 made.3.0.manager told.3 told.4)
+    | inr told ↦ (told.0, ap (λ ks. slice_get ks at) made.2.3 ∙ told.2, granted_by made.0.manager told.0 name told.1 made.2.0.manager told.3 told.4)
   ])
   granted_named (inr unmade) = elim unmade.1 [ inl again ↦ absurd (cc) | inr refused ↦ (let never = refused.1 in absurd (cc)) ]
 
-  pub granted_owns : AsksAt old w name (Ok asked.Granted) new → OwnsAt new w.at name
+  pub granted_owns : AsksAt old at name (Ok asked.Granted) new → OwnsAt new at name
   granted_owns (inl refused) = (let never = refused.2 in absurd (cc))
   granted_owns (inr allowed) = granted_named allowed.1
 
-  held_named : AsksNamed old w name (Ok asked.Held) new → OwnsAt new w.at name
-  held_named (inl made) = subst (λ (d : DeskState). OwnsAt d w.at name) (sym made.3.4) (elim made.3.1 [
+  held_named : AsksNamed old at name (Ok asked.Held) new → OwnsAt new at name
+  held_named (inl made) = subst (λ (d : DeskState). OwnsAt d at name) (sym made.2.4) (elim made.2.1 [
     | inl none ↦ absurd (cc)
-    | inr told ↦ (told.0, ap (λ ks. slice_get ks w.at) made.3.3 ∙ told.2, held_by made.0.manager told.0 name told.1 made.3.0.manager told.3 told.4)
+    | inr told ↦ (told.0, ap (λ ks. slice_get ks at) made.2.3 ∙ told.2, held_by made.0.manager told.0 name told.1 made.2.0.manager told.3 told.4)
   ])
   held_named (inr unmade) = elim unmade.1 [ inl again ↦ absurd (cc) | inr refused ↦ (let never = refused.1 in absurd (cc)) ]
 
-  pub held_owns : AsksAt old w name (Ok asked.Held) new → OwnsAt new w.at name
+  pub held_owns : AsksAt old at name (Ok asked.Held) new → OwnsAt new at name
   held_owns (inl refused) = (let never = refused.2 in absurd (cc))
   held_owns (inr allowed) = held_named allowed.1
 

@@ -7,25 +7,30 @@ use Rattle.mm_desk.specs.declared.reply.Asked.TheVariants as asked
 use Rattle.mm_desk.specs.declared.reply.Tried.TheVariants as tried
 use Rattle.mm_desk.specs.declared.reply.Unlocked.{Unlocked}
 use Rattle.mm_desk.specs.declared.reply.Unlocked.TheVariants.{Done, NotLetGo}
+use Rattle.mm_manager.specs.Reads.{HasStatus}
 use Rattle.mm_manager.specs.declared.refusal.Refusal.{Refusal}
+use Rattle.mm_manager.specs.declared.refusal.Refusal.TheVariants.{NoTransaction}
+use Rattle.mm_manager.specs.declared.reply.Status.{Status}
+use Rattle.mm_manager.specs.declared.reply.Status.TheVariants as status
 use Rattle.mm_lists.specs.Members.{Among, NoRepeat}
 use Rattle.mm_names.specs.Names.{name_of}
 use Rattle.mm_rules.specs.TableState.{owner_of}
 use Rattle.mm_locks.specs.Errors.{Because, error_of}
 use Rattle.mm_locks.specs.declared.error.LockError.{LockError}
 use Rattle.mm_locks.specs.declared.error.LockError.TheVariants.{Deadlock, NotActive, TimedOut}
-use Rattle.mm_thin.specs.Parts.{WorkerState}
+use Rattle.mm_thin_locks.specs.Granted.{OwnsAt}
 use Rattle.mm_thin_locks.specs.declared.hall.TheConstants.{PORTION}
 use Rattle.mm_thin_locks.specs.declared.hall.Outcome.{Outcome}
 use Rattle.mm_thin_locks.specs.declared.hall.Outcome.TheVariants as outcome
+use Rattle.mm_thin_locks.specs.declared.tokens.Granted.{Granted}
 
 -- a request: the transaction owns the name; or it waits, on no cycle of waits; or a bucket changed; or its wait would close a cycle, or it is refused
-abbrev pub AsksFor : DeskState → WorkerState → List ℕ → Result Outcome LockError → DeskState → Type 0
-AsksFor old w name (Ok (outcome.Owns granted)) new = AsksAt old w name (Ok asked.Granted) new ⊎ AsksAt old w name (Ok asked.Held) new
-AsksFor old w name (Ok outcome.Waits) new = (h : Key) × AsksAt old w name (Ok (asked.Waits h)) new
-AsksFor old w name (Ok outcome.Again) new = AsksAt old w name (Ok asked.Again) new
-AsksFor old w name (Err error) new =
-    ((error ≡ Deadlock) × ((h : Key) × AsksAt old w name (Ok (asked.Deadlock h)) new)) ⊎ Because (λ refusal. AsksAt old w name (Err refusal) new) error
+abbrev pub AsksFor : DeskState → ℕ → List ℕ → Result Outcome LockError → DeskState → Type 0
+AsksFor old at name (Ok (outcome.Owns granted)) new = AsksAt old at name (Ok asked.Granted) new ⊎ AsksAt old at name (Ok asked.Held) new
+AsksFor old at name (Ok outcome.Waits) new = (h : Key) × AsksAt old at name (Ok (asked.Waits h)) new
+AsksFor old at name (Ok outcome.Again) new = AsksAt old at name (Ok asked.Again) new
+AsksFor old at name (Err error) new =
+    ((error ≡ Deadlock) × ((h : Key) × AsksAt old at name (Ok (asked.Deadlock h)) new)) ⊎ Because (λ refusal. AsksAt old at name (Err refusal) new) error
 
 -- a try: the transaction owns the name, or another one does, or a bucket changed, or it is refused
 abbrev pub TriesFor : DeskState → ℕ → List ℕ → Result Outcome LockError → DeskState → Type 0
@@ -94,6 +99,25 @@ abbrev pub CommitsOrHandsOver : DeskState → ℕ → Option (Result (Unit {0}) 
 CommitsOrHandsOver old at (Some result) new = CommitsFor old at result new
 CommitsOrHandsOver old at None new = HandsPortionOver old at new
 
--- its wait is taken back, or that is refused: `TimedOut` says that it is done
-abbrev pub TakesBack : {T : Type 0} → DeskState → ℕ → Result T LockError → DeskState → Type 0
-TakesBack old at result new = (answer : Result (Unit {0}) Refusal) × CancelsAt old at answer new × ((result ≡ Err TimedOut) ↔ (answer ≡ Ok tt))
+-- ---- looks at a request, and the end of its wait
+
+-- what the transaction of a worker does; a worker that is not there has none
+abbrev pub StatusAt : DeskState → ℕ → Result Status Refusal → Type 0
+StatusAt d at does = ((slice_get d.keys at ≡ None) × (does ≡ Err NoTransaction)) ⊎ ((k : Key) × (slice_get d.keys at ≡ Some k) × HasStatus d.manager k does)
+
+-- what a request has come to by what the transaction does, if it does not own the name
+abbrev pub found_by : Result Status Refusal → Result Outcome LockError
+found_by (Ok (status.Waiting n h)) = Ok outcome.Waits
+found_by (Ok status.Active) = Err NotActive
+found_by (Err refusal) = Err NotActive
+
+-- a look at what a request has come to: the transaction owns the name; or it does not, and waits, or does not wait any more
+abbrev pub FindsAt : DeskState → ℕ → List ℕ → Result Outcome LockError → Type 0
+FindsAt d at name (Ok (outcome.Owns granted)) = OwnsAt d at name
+FindsAt d at name found = ¬ OwnsAt d at name × ((does : Result Status Refusal) × StatusAt d at does × (found ≡ found_by does))
+
+-- its wait is taken back; or that is refused, and the transaction owns the name or is not active
+abbrev pub TakesBack : DeskState → ℕ → List ℕ → Result Granted LockError → DeskState → Type 0
+TakesBack old at name (Ok granted) new = ((refusal : Refusal) × CancelsAt old at (Err refusal) new) × OwnsAt new at name
+TakesBack old at name (Err error) new =
+    ((error ≡ TimedOut) × CancelsAt old at (Ok tt) new) ⊎ ((error ≡ NotActive) × ((refusal : Refusal) × CancelsAt old at (Err refusal) new) × ¬ OwnsAt new at name)

@@ -6,7 +6,7 @@ ghost use Rattle.mm_locks.specs.Wakes.{IsToWake, Notes, told};
 ghost use Rattle.mm_names.specs.Names.{name_of};
 ghost use Rattle.mm_thin.specs.Calls.{GivesSomeUp};
 ghost use Rattle.mm_thin_locks.specs.Granted.{IsFor, OwnsAt, OwnsFor};
-ghost use Rattle.mm_thin_locks.specs.Calls.{AsksFor, TriesFor, HandsBack, UnlocksFor, CommitsFor, CommitsOrHandsOver, HandsNumberOver, HandsPortionOver, RollsBack, TakesBack, told_of};
+ghost use Rattle.mm_thin_locks.specs.Calls.{AsksFor, FindsAt, StatusAt, TriesFor, HandsBack, UnlocksFor, CommitsFor, CommitsOrHandsOver, HandsNumberOver, HandsPortionOver, RollsBack, TakesBack, told_of};
 
 use crate::tokens::Granted;
 use mm_desk::{Asked, Desk, Room, Tried, Unlocked};
@@ -59,20 +59,16 @@ impl Hall {
         Some(self.desk.key_of(at)?.process)
     }
 
-    /// Asks for a name. All that the worker has taken is made fat first.
-    pub(crate) fn ask<'n>(
-        &mut self,
-        worker: &Worker,
-        name: &'n [u8],
-    ) -> Result<Outcome<'n>, LockError>
+    /// Asks for a name.
+    pub(crate) fn ask<'n>(&mut self, at: u32, name: &'n [u8]) -> Result<Outcome<'n>, LockError>
         ensures in_time { IfErr result (λ error. error ≢ LockError.TimedOut) }
-        ensures asks { AsksFor self.old.desk worker.now name.now result self.new.desk }
-        ensures granted { IfOk result (OwnsFor worker.now.at name.now) }
+        ensures asks { AsksFor self.old.desk at name.now result self.new.desk }
+        ensures granted { IfOk result (OwnsFor at name.now) }
         ensures kept { self.new.pending ≡ self.old.pending }
     {
-        match self.desk.ask(worker, name) {
-            Ok(Asked::Granted) => Ok(Outcome::Owns(self.granted(worker.at(), name))),
-            Ok(Asked::Held) => Ok(Outcome::Owns(self.granted(worker.at(), name))),
+        match self.desk.ask(at, name) {
+            Ok(Asked::Granted) => Ok(Outcome::Owns(self.granted(at, name))),
+            Ok(Asked::Held) => Ok(Outcome::Owns(self.granted(at, name))),
             Ok(Asked::Waits { .. }) => Ok(Outcome::Waits),
             Ok(Asked::Deadlock { .. }) => Err(LockError::Deadlock),
             Ok(Asked::Again) => Ok(Outcome::Again),
@@ -108,6 +104,7 @@ impl Hall {
 
     /// Returns what a request has come to that was told to wait. `Owns` only if the transaction owns the name at this moment.
     pub(crate) fn outcome<'n>(&self, at: u32, name: &'n [u8]) -> Result<Outcome<'n>, LockError>
+        ensures finds { FindsAt self.now.desk at name.now result }
         ensures granted { IfOk result (OwnsFor at name.now) }
         ensures in_time { IfErr result (λ error. error ≢ LockError.TimedOut) }
     {
@@ -121,7 +118,9 @@ impl Hall {
     }
 
     /// Returns what the transaction of a worker does.
-    fn status(&self, at: u32) -> Result<Status, Refusal> {
+    fn status(&self, at: u32) -> Result<Status, Refusal>
+        ensures { StatusAt self.now.desk at result }
+    {
         match self.desk.key_of(at) {
             Some(key) => self.desk.manager().status(key),
             None => Err(Refusal::NoTransaction),
@@ -135,7 +134,7 @@ impl Hall {
         name: &'n [u8],
     ) -> Result<Granted<'n>, LockError>
         ensures granted { IfOk result (IsFor at name.now) }
-        ensures cancels { TakesBack self.old.desk at result self.new.desk }
+        ensures times_out { TakesBack self.old.desk at name.now result self.new.desk }
         ensures kept { self.new.pending ≡ self.old.pending }
     {
         if let Ok(()) = self.desk.cancel(at) {

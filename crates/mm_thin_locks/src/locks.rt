@@ -44,7 +44,7 @@ impl ThinLocks {
     /// Locks of this configuration: nobody owns a name.
     ///
     /// This is the one call that takes memory: what `LockManager::open` takes, 16 bytes a bucket, 12 a name of the manager, and for each
-    /// transaction a worker with ten names of 64 bytes and a cache line in which its thread sleeps. While it opens it takes 8 bytes a bucket
+    /// transaction a worker with eighteen names of 64 bytes and a cache line in which its thread sleeps. While it opens it takes 8 bytes a bucket
     /// and the names once more. Refused as the desk is, for a number that is out of its range, and otherwise only if a request for memory was
     /// refused.
     pub fn open(alloc: Global, config: ThinLocksConfig) -> Result<ThinLocks, OpenError>

@@ -8,7 +8,7 @@ use thiserror::Error;
 pub struct ThinLocksConfig {
     /// How many transactions there can be at a time, how many of their names the manager can have, how many bytes a name may have, and a
     /// seed. A name is the manager's from the first time that somebody else asks for it, until it is free; so are all
-    /// names of a transaction that waits, the ninth name of one and any further one, and a name of more than 63 bytes.
+    /// names of a transaction that waits, each name of one after its sixteenth, and a name of more than 63 bytes.
     pub manager: ManagerConfig,
     /// How many buckets there are: 1 to 16,777,216. Two names of one bucket cannot both be locked without the manager, so take several times as
     /// many as names that are locked at a time.

@@ -40,7 +40,8 @@ impl<'m, R: Wait + Clock> Session<'m, R> {
         ensures granted { IfOk result (OwnsFor self.now.worker.at name.now) }
         ensures in_time { IfErr result (λ error. error ≢ LockError.TimedOut) }
     {
-        self.locks.hall(self.rt).inside().ask(&self.worker, name)
+        let at = self.worker.at();
+        self.locks.hall(self.rt).inside().ask(at, name)
     }
 
     /// Asks the manager for the name, and never waits. The lock is free when this returns.

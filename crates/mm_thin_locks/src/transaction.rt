@@ -54,12 +54,12 @@ impl<'s, 'm, R: Wait + Clock> Transaction<'s, 'm, R> {
 
     /// Locks the name: returns when the transaction owns it, at once if nobody else does, and else it sleeps until it was granted.
     ///
-    /// If nobody else owns a name of its bucket, that is one compare-and-swap; a ninth name, and one of more than 63 bytes, is the manager's. If
-    /// another one owns it the thread looks some times more, and then waits in the manager; all that the transaction has locked is the manager's
-    /// from then on. `Deadlock` comes at once, if the wait would close a cycle of waits; one that sleeps is never told of it. The transaction
-    /// does not wait then, and goes on with what it owns. Give back what others wait for before you ask again: `unlock` what was locked since a
-    /// savepoint, or drop the transaction. Until then the answer is the same, and the others on the cycle cannot go on. A name that it owns
-    /// already is `Ok`, and is owned once. Refused as `Deadlock`, `NameEmpty`, `NameTooLong`, `NamesFull`, `CountsFull` or `LabelsFull`.
+    /// If nobody else owns a name of its bucket, that is one compare-and-swap; a name after the sixteenth, and one of more than 63 bytes, is the
+    /// manager's. If another one owns it the thread looks some times more, and then waits in the manager. `Deadlock` comes at once, if the wait
+    /// would close a cycle of waits; one that sleeps is never told of it. The transaction does not wait then, and goes on with what it owns. Give
+    /// back what others wait for before you ask again: `unlock` what was locked since a savepoint, or drop the transaction. Until then the answer
+    /// is the same, and the others on the cycle cannot go on. A name that it owns already is `Ok`, and is owned once. Refused as `Deadlock`,
+    /// `NameEmpty`, `NameTooLong`, `NamesFull`, `CountsFull` or `LabelsFull`.
     #[inline]
     pub fn lock<'n>(&mut self, name: &'n [u8]) -> Result<Granted<'n>, LockError>
         ensures granted { IfOk result (IsFor self.old.session.now.worker.at name.now) }
@@ -93,7 +93,7 @@ impl<'s, 'm, R: Wait + Clock> Transaction<'s, 'm, R> {
         ensures in_time { IfErr result (λ error. error ≢ LockError.TimedOut) }
         ensures at { self.new.session.now.worker.at ≡ self.old.session.now.worker.at }
     {
-        if let Some(granted) = self.take_alone(name, why)? {
+        if let Some(granted) = self.look_again(name, why) {
             return Ok(Some(granted));
         }
         for _ in self.session.rt.forever() {
@@ -106,41 +106,14 @@ impl<'s, 'm, R: Wait + Clock> Transaction<'s, 'm, R> {
         unreachable!()
     }
 
-    /// Takes the name, if that goes without a wait: nothing else that the transaction has locked comes to the manager for it.
-    fn take_alone<'n>(
-        &mut self,
-        name: &'n [u8],
-        why: Take,
-    ) -> Result<Option<Granted<'n>>, LockError>
-        ensures granted { IfOk result (λ found. IfSome found (IsFor self.old.session.now.worker.at name.now)) }
-        ensures in_time { IfErr result (λ error. error ≢ LockError.TimedOut) }
-        ensures at { self.new.session.now.worker.at ≡ self.old.session.now.worker.at }
-    {
-        match why {
-            Take::Busy => Ok(self.look_again(name)),
-            Take::Full | Take::NotThin => self.try_once(name),
-            Take::Taken | Take::Held | Take::Fat => Ok(None),
-        }
-    }
-
-    /// Asks the manager for the name, which no record of the worker has room for, and does not wait.
-    fn try_once<'n>(&mut self, name: &'n [u8]) -> Result<Option<Granted<'n>>, LockError>
-        ensures granted { IfOk result (λ found. IfSome found (IsFor self.old.session.now.worker.at name.now)) }
-        ensures in_time { IfErr result (λ error. error ≢ LockError.TimedOut) }
-        ensures at { self.new.session.now.worker.at ≡ self.old.session.now.worker.at }
-    {
-        self.is_known = true;
-        match self.session.try_lock(name)? {
-            Outcome::Owns(granted) => Ok(Some(granted)),
-            Outcome::Waits | Outcome::Again => Ok(None),
-        }
-    }
-
-    /// Takes the name if it becomes free soon.
-    fn look_again<'n>(&mut self, name: &'n [u8]) -> Option<Granted<'n>>
+    /// Takes the name if another one has its bucket, and that becomes free soon.
+    fn look_again<'n>(&mut self, name: &'n [u8], why: Take) -> Option<Granted<'n>>
         ensures granted { IfSome result (IsFor self.old.session.now.worker.at name.now) }
         ensures at { self.new.session.now.worker.at ≡ self.old.session.now.worker.at }
     {
+        let Take::Busy = why else {
+            return None;
+        };
         let awake = Awake::new(self.session.rt);
         let mut yields = 1u32;
         for _ in 0..LOOKS {

@@ -63,7 +63,6 @@ impl Transactions {
         requires some_processes { 1 ≤ processes }
         requires processes_in_range { processes ≤ MAX_CAPACITY }
         requires some_resources { 1 ≤ resources }
-        requires resources_in_range { resources ≤ MAX_CAPACITY }
         requires some_generation { 1 ≤ generation_limit }
         ensures { IfOk result (λ made. made ≡ opening processes resources generation_limit) }
     {

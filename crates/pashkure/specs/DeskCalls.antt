@@ -57,8 +57,8 @@ TellsAddWorker old before told new after =
 
 -- ---- requests
 
-abbrev pub TellsAsk : HallState → WorkerState → List ℕ → ℕ → HallState → Type 0
-TellsAsk old w name told new = (answer : Result Asked Refusal) × (told ≡ asked_number answer) × AsksAt old.desk w name answer new.desk × (new.room ≡ old.room)
+abbrev pub TellsAskAt : HallState → ℕ → List ℕ → ℕ → HallState → Type 0
+TellsAskAt old at name told new = (answer : Result Asked Refusal) × (told ≡ asked_number answer) × AsksAt old.desk at name answer new.desk × (new.room ≡ old.room)
 
 abbrev pub TellsTryAt : HallState → ℕ → List ℕ → ℕ → HallState → Type 0
 TellsTryAt old at name told new = (answer : Result Tried Refusal) × (told ≡ tried_number answer) × TriesAt old.desk at name answer new.desk × (new.room ≡ old.room)

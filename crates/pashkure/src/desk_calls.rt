@@ -1,6 +1,6 @@
 //! The calls that change a desk. Of a closed handle each answers `NOT_OPEN`, and changes nothing.
 ghost use Rattle.std.specs.Prelude.{◌≡◌, ◌⊎◌};
-ghost use Rattle.pashkure.specs.DeskCalls.{FreesAll, HasDesk, TellsAbortAt, TellsAdoptAll, TellsAsk, TellsBeginAt, TellsCancelAt, TellsCommitAt, TellsTryAt, TellsUnlockAt};
+ghost use Rattle.pashkure.specs.DeskCalls.{FreesAll, HasDesk, TellsAbortAt, TellsAdoptAll, TellsAskAt, TellsBeginAt, TellsCancelAt, TellsCommitAt, TellsTryAt, TellsUnlockAt};
 ghost use Rattle.mm_thin.specs.Calls.{GivesSomeUp};
 ghost use Rattle.pashkure.specs.WorkerCalls.{HasWorker};
 
@@ -20,12 +20,13 @@ pub extern "C" fn pashkure_desk_ask(
     ensures closed { ¬ HasDesk desk.old ⊎ ¬ HasWorker worker.old → (result ≡ 32) × (desk.new ≡ desk.old) × (worker.new ≡ worker.old) }
     ensures open { (desk.new.state ≡ desk.old.state) × (worker.new.state ≡ worker.old.state) }
     ensures worker { worker.new ≡ worker.old }
-    ensures asks { HasDesk desk.old → HasWorker worker.old → TellsAsk desk.old.held worker.old.held name.now result desk.new.held }
+    ensures asks { HasDesk desk.old → HasWorker worker.old → TellsAskAt desk.old.held worker.old.held.at name.now result desk.new.held }
 {
     if !desk.is_open() || !worker.is_open() {
         return NOT_OPEN;
     }
-    of_asked(desk.hall().desk.ask(worker.worker(), name))
+    let at = worker.worker().at();
+    of_asked(desk.hall().desk.ask(at, name))
 }
 
 /// `Desk::try_lock`.

@@ -7,7 +7,7 @@ mod ends;
 mod helpers;
 mod together;
 
-use crate::tests::alone::{each_name_is_known, nine_names_and_a_long_one, one_name_by_two};
+use crate::tests::alone::{each_name_is_known, many_names_and_a_long_one, one_name_by_two};
 use crate::tests::ends::{End, hand_over_in_portions};
 use crate::tests::together::{cross_often, cross_once, share_one_place};
 use mm_thin_locks::{ManagerConfig, ThinLocks, ThinLocksConfig};
@@ -22,7 +22,7 @@ use std::time::Clock;
 #[derive(Clone, Copy)]
 enum Work {
     EachName,
-    NineNames,
+    ManyNames,
     OneNameByTwo,
     Cross,
     CrossOnce,
@@ -41,7 +41,7 @@ impl Work {
     ) -> u64 {
         match self {
             Work::EachName => each_name_is_known(rt, locks),
-            Work::NineNames => nine_names_and_a_long_one(rt, locks),
+            Work::ManyNames => many_names_and_a_long_one(rt, locks),
             Work::OneNameByTwo => one_name_by_two(rt, locks),
             Work::Cross => cross_often(rt, locks, gate, number),
             Work::CrossOnce => cross_once(rt, locks, gate, number),
@@ -55,7 +55,7 @@ impl Work {
         match self {
             Work::OnePlace => 1,
             Work::Portions(_) => 1_024,
-            _ => 16,
+            _ => 32,
         }
     }
 }
@@ -120,8 +120,8 @@ fn test_each_name_is_known(rt: HostRuntime) {
 }
 
 #[test]
-fn test_nine_names_and_a_long_one(rt: HostRuntime) {
-    commit_together(&rt, rt.alloc(), Work::NineNames, 1, 2);
+fn test_many_names_and_a_long_one(rt: HostRuntime) {
+    commit_together(&rt, rt.alloc(), Work::ManyNames, 1, 2);
 }
 
 #[test]
@@ -144,7 +144,7 @@ fn test_one_place_for_two_threads(rt: HostRuntime) {
     let alone = on_locks(&rt, rt.alloc(), Work::OnePlace, 2, 1);
     assert_eq!(&rt; alone, 1, "one name has the bucket");
     let apart = on_locks(&rt, rt.alloc(), Work::OnePlace, 2, 4_096);
-    assert_eq!(&rt; apart, 9, "eight by their words, and one in the manager");
+    assert_eq!(&rt; apart, 17, "sixteen by their words, and one in the manager");
 }
 
 #[test]

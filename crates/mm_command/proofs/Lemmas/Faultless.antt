@@ -199,7 +199,7 @@ reads_transactions a (inr (inr (inr (inr (inr (inr (inl is))))))) named = absurd
 reads_transactions a (inr (inr (inr (inr (inr (inr (inr (inl is)))))))) named = absurd (other _ a _ is refl named)
 reads_transactions a (inr (inr (inr (inr (inr (inr (inr (inr x)))))))) named = absurd x
 
-reads_names : ReadNumbers (codes "names") 1 65536 locks_rules
+reads_names : ReadNumbers (codes "names") 1 16777216 locks_rules
 reads_names a (inl is) named = absurd (other _ a _ is refl named)
 reads_names a (inr (inl is)) named = ap (λ (r : Rule). r.parser) (sym is)
 reads_names a (inr (inr (inl is))) named = absurd (other _ a _ is refl named)
@@ -227,7 +227,7 @@ limits_there words none =
     let fits = leaf_fits (sub_at 3) words refl refl none in
     let rule = λ (i : ℕ). slice_index_or locks_rules i (new_rule []) in (
       number_there locks_rules (codes "transactions") 1 65536 rows reads_transactions (default_has (sub_at 3) words (rule 0) (inl refl) tt) fits.0,
-      number_there locks_rules (codes "names") 1 65536 rows reads_names (default_has (sub_at 3) words (rule 1) (inr (inl refl)) tt) fits.0,
+      number_there locks_rules (codes "names") 1 16777216 rows reads_names (default_has (sub_at 3) words (rule 1) (inr (inl refl)) tt) fits.0,
       number_there locks_rules (codes "name-bytes") 1 1024 rows reads_name_bytes (default_has (sub_at 3) words (rule 2) (inr (inr (inl refl))) tt) fits.0,
     )
 

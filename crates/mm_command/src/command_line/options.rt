@@ -1,7 +1,7 @@
 //! The numbers of a lock service.
 ghost use Rattle.mm_command.specs.Limits.{AreLimits};
 
-/// With what a lock service is opened: 1 to 65,536 transactions and names, names of 1 to 1,024 bytes, and a seed if one is given. With a
+/// With what a lock service is opened: 1 to 65,536 transactions, 1 to 16,777,216 names, names of 1 to 1,024 bytes, and a seed if one is given. With a
 /// number of connections it keeps the transactions of each from the others: at most `each` of one connection can be live, and it has an epoch.
 #[derive(Clone, Copy)]
 pub struct LocksOptions {

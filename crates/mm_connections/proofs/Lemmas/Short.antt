@@ -102,7 +102,9 @@ form_short (forms.Key request) (k ∷ []) = key_asked (key_of k) (requests.OfKey
 form_short (forms.Key request) (k ∷ word ∷ others) = tt
 form_short forms.Holds [] = tt
 form_short forms.Holds (k ∷ []) = key_asked (key_of k) requests.Holds
-form_short forms.Holds (k ∷ word ∷ others) = tt
+form_short forms.Holds (k ∷ n ∷ []) =
+    bind_asked (key_of k) (λ key. name_of_word n >>= λ name. Some (record { request = requests.Holds key; name = name })) (λ key. name_bound (name_of_word n) (requests.Holds key) (name_short n))
+form_short forms.Holds (k ∷ n ∷ word ∷ others) = tt
 form_short (forms.KeyAndName request) [] = tt
 form_short (forms.KeyAndName request) (k ∷ []) = tt
 form_short (forms.KeyAndName request) (k ∷ n ∷ []) =

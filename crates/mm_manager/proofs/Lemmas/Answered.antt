@@ -15,14 +15,16 @@ use Rattle.mm_settled.proofs.Lemmas.Accepted.{accepted}
 use Rattle.mm_manager.specs.Calls.{Requests}
 use Rattle.mm_manager.specs.Permit.{first_refusal, may_ask, may_count, may_name, may_request}
 use Rattle.mm_manager.specs.Refused.{LockRefused}
+use Rattle.mm_manager.specs.Totals.{after_lock}
+use Rattle.mm_manager.specs.declared.totals.Totals.{Totals}
 use Rattle.mm_manager.specs.declared.refusal.Refusal.{Refusal}
 use Rattle.mm_manager.specs.declared.refusal.Refusal.TheVariants.{NamesFull}
 use Rattle.mm_manager.specs.declared.reply.Lock.{Lock}
 use Rattle.mm_manager.specs.declared.reply.Lock.TheVariants as lock
-use Rattle.mm_manager.specs.private.Numbers.{AreNumbered, bare}
+use Rattle.mm_manager.specs.private.Numbers.{AreNumbered, silent}
 use Rattle.mm_manager.specs.private.Requests.{may_ask_more, AnswersNew, AnswersNamed, AsksFor, Requested}
-use Rattle.mm_manager.specs.private.Room.{HasReserve}
-use Rattle.mm_manager.proofs.Lemmas.Asked.{RequestKeeps, request_keeps}
+use Rattle.mm_manager.specs.private.Room.{LabelsAreCounted, HasReserve}
+use Rattle.mm_manager.proofs.Lemmas.Asked.{RequestKeeps, request_keeps, request_labels}
 use Rattle.mm_manager.proofs.Lemmas.May.{asks, counted, may_ask_of}
 use Rattle.mm_manager.proofs.Lemmas.Numbers.{numbered_alike}
 use Rattle.mm_manager.proofs.Lemmas.Requests.{granted_is, queued_is, numbered_granted, numbered_queued}
@@ -75,12 +77,12 @@ request_asks s name_bytes k name may = (first_both (may_ask s k) (first_refusal 
 
 -- ---- by what a request says
 
-module _ (s u : TableState) (t named : NameTable) (k : Key) (name : List ℕ) where
-  pub requested_asks : (reply : Result Lock Refusal) → Requested s t k name reply u named → IfOk reply (λ answer. Requests s t k name answer u named)
+module _ (s u : TableState) (t named : NameTable) (c : Totals) (k : Key) (name : List ℕ) where
+  pub requested_asks : (reply : Result Lock Refusal) → Requested s t c k name reply u named → IfOk reply (λ answer. Requests s t c k name answer u named)
   requested_asks (Ok answer) is = is.1
   requested_asks (Err refusal) is = tt
 
-  pub requested_may : (reply : Result Lock Refusal) → Requested s t k name reply u named → OnOk reply (may_request s t.name_bytes k name ≡ Ok tt)
+  pub requested_may : (reply : Result Lock Refusal) → Requested s t c k name reply u named → OnOk reply (may_request s t.name_bytes k name ≡ Ok tt)
   requested_may (Ok answer) is = is.0
   requested_may (Err refusal) is = tt
 
@@ -92,15 +94,15 @@ forgotten_again t n name free =
     ap (λ ns. record t { names = ns })
     (set-set t.names n (Some name) None ∙ ap (slice_set t.names n) (sym free) ∙ set-get_or t.names n None)
 
-module _ (s u : TableState) (t after : NameTable) (k : Key) (name : List ℕ) (n : ℕ) (allowed : may_name t.name_bytes name ≡ Ok tt) where
+module _ (s u : TableState) (t after : NameTable) (c : Totals) (k : Key) (name : List ℕ) (n : ℕ) (allowed : may_name t.name_bytes name ≡ Ok tt) where
   module _ (named : NameTable) (fresh : ¬ IsNamed t name) (free : IsFree t n) (given : after ≡ with_name t n (Some name)) where
     unchanged : named ≡ with_name after n None → named ≡ t
     unchanged is = is ∙ ap (λ v. with_name v n None) given ∙ forgotten_again t n name free.1
 
-    pub new_requested : (reply : Result Lock Refusal) → AnswersNew s k n after reply u named → Requested s t k name reply u named
+    pub new_requested : (reply : Result Lock Refusal) → AnswersNew s k n after reply u named → Requested s t c k name reply u named
     new_requested (Ok answer) (granted, more, locks, same) =
         let interns : Interns t name n named = inr (fresh, free, same ∙ given) in
-        (request_ok s t.name_bytes k name more allowed, subst (λ a. Requests s t k name a u named) (sym granted) (n, interns, locks))
+        (request_ok s t.name_bytes k name more allowed, subst (λ a. Requests s t c k name a u named) (sym granted) (n, interns, locks))
     new_requested (Err refusal) (more, same, is) = (inl (inl (request_err s t.name_bytes k name refusal more)), same, unchanged is)
 
     pub new_numbered : AreNumbered s t → Laws s → (reply : Result Lock Refusal) → AnswersNew s k n after reply u named → AreNumbered u named
@@ -111,43 +113,43 @@ module _ (s u : TableState) (t after : NameTable) (k : Key) (name : List ℕ) (n
   -- ---- a name that has a number
 
   module _ (known : name_of t n ≡ Some name) (kept : after ≡ t) where
-    asks_for : (answer : Lock) → AsksFor s k n answer u → Requests s t k name answer u after
+    asks_for : (answer : Lock) → AsksFor s c k n answer u → Requests s t c k name answer u after
     asks_for lock.Granted locks = (n, inl (known, kept), locks)
     asks_for (lock.Waits h) (label, locks) = (label, (n, inl (known, kept), locks))
     asks_for (lock.Deadlock h) (label, locks) = (label, (n, inl (known, kept), locks))
     asks_for lock.Held (owner, same) = ((n, known, owner), same, kept)
 
-    pub named_requested : (reply : Result Lock Refusal) → AnswersNamed s k n reply u → Requested s t k name reply u after
+    pub named_requested : (reply : Result Lock Refusal) → AnswersNamed s c k n reply u → Requested s t c k name reply u after
     named_requested (Ok answer) (more, asked) = (request_ok s t.name_bytes k name more allowed, asks_for answer asked)
     named_requested (Err refusal) (same, inl more) = (inl (inl (request_err s t.name_bytes k name refusal more)), same, kept)
     named_requested (Err refusal) (same, inr (more, full, label, (h, other, owner))) =
         (inr (request_ok s t.name_bytes k name more allowed, full, label, (h, other, (n, known, owner))), same, kept)
 
-    numbered_by : AreNumbered s t → Laws s → (answer : Lock) → AsksFor s k n answer u → AreNumbered u after
+    numbered_by : AreNumbered s t → Laws s → (answer : Lock) → AsksFor s c k n answer u → AreNumbered u after
     numbered_by numbered laws lock.Granted locks = numbered_granted s t numbered after name n laws k u (granted_is s u k n locks) (inl (known, kept))
     numbered_by numbered laws (lock.Waits h) (label, locks) = numbered_queued s t numbered after name n k h u (queued_is s u k h n locks.0) (inl (known, kept))
     numbered_by numbered laws (lock.Deadlock h) (label, locks) = rw kept (numbered_alike s t numbered u locks.same.owners locks.same.config)
     numbered_by numbered laws lock.Held (owner, same) = rw (same, kept) numbered
 
-    pub named_numbered : AreNumbered s t → Laws s → (reply : Result Lock Refusal) → AnswersNamed s k n reply u → AreNumbered u after
+    pub named_numbered : AreNumbered s t → Laws s → (reply : Result Lock Refusal) → AnswersNamed s c k n reply u → AreNumbered u after
     named_numbered numbered laws (Ok answer) (more, asked) = numbered_by numbered laws answer asked
     named_numbered numbered laws (Err refusal) (same, why) = rw (same, kept) numbered
 
 -- ---- a name that gets no number
 
-module _ (s : TableState) (t : NameTable) (k : Key) (name : List ℕ) (found refusal : Refusal)
+module _ (s : TableState) (t : NameTable) (c : Totals) (k : Key) (name : List ℕ) (found refusal : Refusal)
     (why : (may_name t.name_bytes name ≡ Err found) ⊎ ((may_name t.name_bytes name ≡ Ok tt) × (found ≡ NamesFull) × IsRefusedAsFull t name)) where
-  by_name : may_ask_more s k ≡ Ok tt → refusal ≡ found → LockRefused (bare s t) k name refusal
+  by_name : may_ask_more s k ≡ Ok tt → refusal ≡ found → LockRefused (silent s t c) k name refusal
   by_name more same = elim why [
     | inl named ↦ inl (inl (request_name s t.name_bytes k name refusal more (named ∙ ap Err (sym same))))
     | inr full ↦ inl (inr (request_ok s t.name_bytes k name more full.0, same ∙ full.1, full.2))
   ]
 
-  by_asking : (a : Result (Unit {0}) Refusal) → may_ask_more s k ≡ a → Err refusal ≡ first_refusal a (Err found) → LockRefused (bare s t) k name refusal
+  by_asking : (a : Result (Unit {0}) Refusal) → may_ask_more s k ≡ a → Err refusal ≡ first_refusal a (Err found) → LockRefused (silent s t c) k name refusal
   by_asking (Ok tt) more is = by_name more (cc)
   by_asking (Err e) more is = inl (inl (request_err s t.name_bytes k name refusal (more ∙ sym is)))
 
-  pub number_refused : Err refusal ≡ first_refusal (may_ask_more s k) (Err found) → LockRefused (bare s t) k name refusal
+  pub number_refused : Err refusal ≡ first_refusal (may_ask_more s k) (Err found) → LockRefused (silent s t c) k name refusal
   number_refused is = by_asking (may_ask_more s k) refl is
 
 -- ---- what stays
@@ -155,9 +157,14 @@ module _ (s : TableState) (t : NameTable) (k : Key) (name : List ℕ) (found ref
 may_of : (s : TableState) (name_bytes : ℕ) (k : Key) (name : List ℕ) → may_request s name_bytes k name ≡ Ok tt → (may_ask s k ≡ Ok tt) × (may_count s ≡ Ok tt)
 may_of s name_bytes k name is = asks_more s k (first_both (may_ask_more s k) (may_name name_bytes name) (sym (more_then_name s name_bytes k name) ∙ is)).0
 
-module _ (s u : TableState) (t named : NameTable) (k : Key) (name : List ℕ) (laws : Laws s) (room : HasReserve s) where
-  pub requested_keeps : (reply : Result Lock Refusal) → Requested s t k name reply u named → RequestKeeps s u
+module _ (s u : TableState) (t named : NameTable) (c : Totals) (k : Key) (name : List ℕ) (labels : LabelsAreCounted s c) where
+  pub requested_labels : (reply : Result Lock Refusal) → Requested s t c k name reply u named → LabelsAreCounted u (after_lock c reply)
+  requested_labels (Ok answer) (may, asked) = request_labels s u t named c k name labels answer asked
+  requested_labels (Err refusal) (why, same, kept) = subst (λ (v : TableState). LabelsAreCounted v c) (sym same) labels
+
+module _ (s u : TableState) (t named : NameTable) (c : Totals) (k : Key) (name : List ℕ) (laws : Laws s) (room : HasReserve s) (labels : LabelsAreCounted s c) where
+  pub requested_keeps : (reply : Result Lock Refusal) → Requested s t c k name reply u named → RequestKeeps s u
   requested_keeps (Ok answer) (may, asked) =
-      request_keeps s u t named k name answer record { laws = laws; room = room; below = counted s (may_of s t.name_bytes k name may).1 } asked
+      request_keeps s u t named c k name labels answer record { laws = laws; room = room; below = counted s (may_of s t.name_bytes k name may).1 } asked
   requested_keeps (Err refusal) (why, same, kept) =
       subst (λ (v : TableState). RequestKeeps s v) (sym same) record { laws = laws; room = room; config = refl }

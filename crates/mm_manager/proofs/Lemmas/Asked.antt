@@ -1,5 +1,5 @@
 -- From numbers to names: what a request does.
-use Rattle.std.proofs.Common.{◌≡◌, ◌≢◌, ◌∷◌, ◌<◌, ◌≤◌, ◌+◌, ◌*◌, ◌/◌, ℕ, true, List, [], Some, None, Result, Ok, Err, inl, inr, refl, sym, ap, subst, ◌∙◌, slice_index_or, get_or-set_same, get_or-set_other, arith, length}
+use Rattle.std.proofs.Common.{◌≡◌, ◌≢◌, ◌∷◌, ◌<◌, ◌*◌, ◌/◌, ℕ, true, List, [], Some, None, Result, Ok, Err, inl, inr, refl, sym, ap, subst, ◌∙◌, slice_index_or, get_or-set_same, get_or-set_other, arith, length}
 use Rattle.std.proofs.lemmas.Bool.{ltb-true}
 use Rattle.mm_arena.specs.declared.key.Key.{Key}
 use Rattle.mm_lists.specs.Members.{Among}
@@ -17,17 +17,19 @@ use Rattle.mm_settled.specs.Calls.{Locks, WaitsFrom, Declines}
 use Rattle.mm_settled.specs.declared.reply.Locked.TheVariants as locked
 use Rattle.mm_manager.specs.LockState.{LockState}
 use Rattle.mm_manager.specs.Calls.{Gets, Queues, Requests, Tries}
-use Rattle.mm_manager.specs.Permit.{event_limit, may_wait}
+use Rattle.mm_manager.specs.Permit.{event_limit, may_wait, requests_met}
+use Rattle.mm_manager.specs.Totals.{after_lock}
+use Rattle.mm_manager.specs.declared.totals.Totals.{Totals}
 use Rattle.mm_manager.specs.declared.refusal.Refusal.{Refusal}
 use Rattle.mm_manager.specs.declared.reply.Lock.{Lock}
 use Rattle.mm_manager.specs.declared.reply.Lock.TheVariants as lock
 use Rattle.mm_manager.specs.private.Numbers.{AreNumbered}
-use Rattle.mm_manager.specs.private.Room.{HasReserve}
+use Rattle.mm_manager.specs.private.Room.{HasLabels, LabelsAreCounted, HasReserve}
 use Rattle.mm_manager.specs.declared.reply.TryLock.{TryLock}
 use Rattle.mm_manager.specs.declared.reply.TryLock.TheVariants as tried
 use Rattle.mm_manager.proofs.Lemmas.Names.{waited_is_owned}
 use Rattle.mm_manager.proofs.Lemmas.Numbers.{some_not_none}
-use Rattle.mm_manager.proofs.Lemmas.Room.{granted_room, waits_room, declines_room}
+use Rattle.mm_manager.proofs.Lemmas.Room.{granted_labels, granted_room, waits_labels, waits_room, declines_labels, declines_room}
 use Rattle.mm_manager.proofs.Lemmas.Requests.{IsGranted, IsQueued, granted_is, queued_is, interned_name, owned_is_known, free_is_new}
 
 -- ---- what stays in the table
@@ -40,8 +42,9 @@ pub record RequestKeeps (s u : TableState) : Type 0 where
   pub room : HasReserve u
   pub config : u.config ≡ s.config
 
-pub label_left : (s : TableState) → may_wait s ≡ true → 2 * s.totals.accepted + 2 ≤ s.config.label_limit
-label_left s label = (let below : s.totals.accepted < s.config.label_limit / 2 = ltb-true s.totals.accepted (s.config.label_limit / 2) label in omega (arith, below))
+-- a request that may wait finds its labels
+pub label_left : (s : TableState) (c : Totals) → LabelsAreCounted s c → may_wait s c ≡ true → HasLabels s
+label_left s c counted may p = (let below : requests_met c < s.config.label_limit / 2 = ltb-true (requests_met c) (s.config.label_limit / 2) may in omega (arith, below, counted p))
 
 -- what holds before a request
 pub record MayRequest (s : TableState) : Type 0 where
@@ -59,40 +62,42 @@ granted_keeps s u k n may locks =
       config = granted.config;
     }
 
-waits_keeps : (s u : TableState) (k h : Key) (n : ℕ) → MayRequest s → may_wait s ≡ true → WaitsFrom s k n h u → RequestKeeps s u
+waits_keeps : (s u : TableState) (k h : Key) (n : ℕ) → MayRequest s → HasLabels s → WaitsFrom s k n h u → RequestKeeps s u
 waits_keeps s u k h n may label from =
     let queued = queued_is s u k h n from in
     let laws = (event_keeps Settle from.mid u (Ok from.answer) from.settle (event_keeps (Acquire k n) s from.mid (Ok (acquired.Waits h from.label)) from.event may.laws).laws).laws in
     record {
       laws = laws;
-      room = waits_room s u k h n may.room laws may.below (label_left s label) from;
+      room = waits_room s u k h n may.room laws may.below label from;
       config = queued.config;
     }
 
-declines_keeps : (s u : TableState) (k h : Key) (n : ℕ) → MayRequest s → may_wait s ≡ true → Declines s k n h u → RequestKeeps s u
+declines_keeps : (s u : TableState) (k h : Key) (n : ℕ) → MayRequest s → HasLabels s → Declines s k n h u → RequestKeeps s u
 declines_keeps s u k h n may label declined =
     let from = declined.waited in
     let settled = (event_keeps Settle from.mid declined.settled (Ok from.answer) from.settle (event_keeps (Acquire k n) s from.mid (Ok (acquired.Waits h from.label)) from.event may.laws).laws).laws in
     let laws : Laws u = subst (λ (t : TableState). Laws t) (sym declined.back) (take_back_keeps_laws declined.settled k.process settled declined.verdict) in
     record {
       laws = laws;
-      room = declines_room s u k h n may.room laws may.below (label_left s label) declined;
+      room = declines_room s u k h n may.room laws may.below label declined;
       config = declined.same.config;
     }
 
-same_keeps : (s u : TableState) → MayRequest s → u ≡ s → RequestKeeps s u
+pub same_keeps : (s u : TableState) → MayRequest s → u ≡ s → RequestKeeps s u
 same_keeps s u may same = subst (λ v. RequestKeeps s v) (sym same) record { laws = may.laws; room = may.room; config = refl }
 
-pub request_keeps : (s u : TableState) (t named : NameTable) (k : Key) (name : List ℕ) (answer : Lock) → MayRequest s → Requests s t k name answer u named → RequestKeeps s u
-request_keeps s u t named k name lock.Granted may asks = granted_keeps s u k asks.0 may asks.2
-request_keeps s u t named k name (lock.Waits h) may asks = waits_keeps s u k h asks.1.0 may asks.0 asks.1.2.0
-request_keeps s u t named k name (lock.Deadlock h) may asks = declines_keeps s u k h asks.1.0 may asks.0 asks.1.2
-request_keeps s u t named k name lock.Held may asks = same_keeps s u may asks.1
+module _ (s u : TableState) (t named : NameTable) (c : Totals) (k : Key) (name : List ℕ) (labels : LabelsAreCounted s c) where
+  pub request_keeps : (answer : Lock) → MayRequest s → Requests s t c k name answer u named → RequestKeeps s u
+  request_keeps lock.Granted may asks = granted_keeps s u k asks.0 may asks.2
+  request_keeps (lock.Waits h) may asks = waits_keeps s u k h asks.1.0 may (label_left s c labels asks.0) asks.1.2.0
+  request_keeps (lock.Deadlock h) may asks = declines_keeps s u k h asks.1.0 may (label_left s c labels asks.0) asks.1.2
+  request_keeps lock.Held may asks = same_keeps s u may asks.1
 
-pub asked_keeps : (s u : TableState) (t named : NameTable) (k : Key) (name : List ℕ) (reply : Result Lock Refusal) → MayRequest s
-    → ((answer : Lock) → reply ≡ Ok answer → Requests s t k name answer u named) → ((e : Refusal) → reply ≡ Err e → u ≡ s) → RequestKeeps s u
-asked_keeps s u t named k name (Ok answer) may made refused = request_keeps s u t named k name answer may (made answer refl)
-asked_keeps s u t named k name (Err e) may made refused = same_keeps s u may (refused e refl)
+  pub request_labels : (answer : Lock) → Requests s t c k name answer u named → LabelsAreCounted u (after_lock c (Ok answer))
+  request_labels lock.Granted asks = granted_labels s u k asks.0 asks.2 (2 * requests_met c) labels
+  request_labels (lock.Waits h) asks = λ p. omega (arith, waits_labels s u k h asks.1.0 asks.1.2.0 (2 * requests_met c) labels p)
+  request_labels (lock.Deadlock h) asks = λ p. omega (arith, declines_labels s u k h asks.1.0 asks.1.2 (2 * requests_met c) labels p)
+  request_labels lock.Held asks = subst (λ v. LabelsAreCounted v c) (sym asks.1) labels
 
 tried_keeps : (s u : TableState) (t named : NameTable) (k : Key) (name : List ℕ) (answer : TryLock) → MayRequest s → Tries s t k name answer u named → RequestKeeps s u
 tried_keeps s u t named k name tried.Granted may asks = granted_keeps s u k asks.0 may asks.2

@@ -8,7 +8,7 @@ use Rattle.mm_rules.specs.Event.{Event, Begin, Acquire, Release, Finish, Settle,
 use Rattle.mm_rules.proofs.States.Counts.{event_counts}
 use Rattle.mm_rules.proofs.States.WithdrawLaws.{withdraw_counts}
 use Rattle.mm_settled.specs.Calls.{Made, MadeWithdrawal, Rests, WaitsFrom}
-use Rattle.mm_manager.specs.Calls.{Tries}
+use Rattle.mm_manager.specs.Calls.{AdoptsNumber, Tries}
 use Rattle.mm_manager.specs.Totals.{all_of, after_begin, after_lock, after_commit, after_abort, after_cancel}
 use Rattle.mm_manager.specs.declared.named.NamedTable.{NamedTable}
 use Rattle.mm_manager.specs.declared.refusal.Refusal.{Refusal}
@@ -44,7 +44,7 @@ waits_counted s u k h n from =
     omega (arith, (event_counts (Acquire k n) s from.mid (Ok (acquired.Waits h from.label)) from.event).0, (event_counts Settle from.mid u (Ok from.answer) from.settle).0)
 
 pub lock_counted : (t : Totals) (s u : TableState) (names named : NameTable) (k : Key) (name : List ℕ) (reply : Result Lock Refusal) → all_of t ≤ s.totals.accepted
-    → Requested s names k name reply u named → all_of (after_lock t reply) ≤ u.totals.accepted
+    → Requested s names t k name reply u named → all_of (after_lock t reply) ≤ u.totals.accepted
 lock_counted t s u names named k name (Ok lock.Granted) below (may, asks) = omega (arith, below, (event_counts (Acquire k asks.0) s u (Ok acquired.Granted) asks.2).0)
 lock_counted t s u names named k name (Ok lock.Held) below (may, asks) = omega (arith, below, ap (λ (v : TableState). v.totals.accepted) asks.1)
 lock_counted t s u names named k name (Ok (lock.Waits h)) below (may, asks) = omega (arith, below, waits_counted s u k h asks.1.0 asks.1.2.0)
@@ -58,6 +58,14 @@ try_counted t s u names named k name (Ok tried.Granted) below asks same = omega 
 try_counted t s u names named k name (Ok tried.Held) below asks same = omega (arith, below, ap (λ (v : TableState). v.totals.accepted) asks.1)
 try_counted t s u names named k name (Ok (tried.Busy h)) below asks same = omega (arith, below, ap (λ (v : TableState). v.totals.accepted) asks.1.1)
 try_counted t s u names named k name (Err e) below asks same = omega (arith, below, ap (λ (v : TableState). v.totals.accepted) same)
+
+-- an adoption is no event
+pub adoption_counted : (t : Totals) (s u : TableState) (names named : NameTable) (k : Key) (name : List ℕ) (reply : Result TryLock Refusal) → all_of t ≤ s.totals.accepted
+    → IfOk reply (λ answer. AdoptsNumber s names k name answer u named) → OnErr reply (u ≡ s) → all_of t ≤ u.totals.accepted
+adoption_counted t s u names named k name (Ok tried.Granted) below adopts same = omega (arith, below, ap (λ (v : TableState). v.totals.accepted) adopts.2.state)
+adoption_counted t s u names named k name (Ok tried.Held) below found same = omega (arith, below, ap (λ (v : TableState). v.totals.accepted) found.1)
+adoption_counted t s u names named k name (Ok (tried.Busy h)) below found same = omega (arith, below, ap (λ (v : TableState). v.totals.accepted) found.1.1)
+adoption_counted t s u names named k name (Err e) below adopts same = omega (arith, below, ap (λ (v : TableState). v.totals.accepted) same)
 
 -- ---- an unlock and the ends
 

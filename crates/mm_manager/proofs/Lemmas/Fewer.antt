@@ -156,7 +156,7 @@ few_waits s laws =
     omega (arith, waiter_within s laws.lawful.well_formed which.0 which.1, which.2)) in
     omega (arith, few, length-map s.waits process_of)
 
-pub few_to_end : (s : TableState) → Laws s → to_end s ≤ 196608
+pub few_to_end : (s : TableState) → Laws s → to_end s ≤ 16908288
 few_to_end s laws =
     let sizes = laws.lawful.well_formed.sizes in
     let range = laws.lawful.well_formed.config in

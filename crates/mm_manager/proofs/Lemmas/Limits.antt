@@ -1,5 +1,5 @@
 -- No end of a transaction is refused while there is room for it, and no request is that is made only where there is room for it.
-use Rattle.std.proofs.Common.{◌≡◌, ◌≤◌, ◌<◌, ◌+◌, ◌*◌, ◌^◌, ◌∷◌, ℕ, Bool, true, false, not, List, [], Option, Some, None, is_some, length, count_by, nat_eq, nat_le, Result, Ok, Err, MatchBool, inl, inr, refl, sym, ap, subst, ◌∙◌, arith}
+use Rattle.std.proofs.Common.{◌≡◌, ◌≤◌, ◌<◌, ◌+◌, ◌^◌, ◌∷◌, ℕ, Bool, true, false, not, List, [], Option, Some, None, is_some, length, count_by, nat_eq, nat_le, Result, Ok, Err, MatchBool, inl, inr, refl, sym, ap, subst, ◌∙◌, arith}
 use Rattle.std.specs.List.{AllByRecursion}
 use Rattle.std.specs.Option.{option_map_or}
 use Rattle.std.proofs.lemmas.Bool.{and_parts, eq-eqb, lt-leb, le-leb, lt-ltb}
@@ -20,7 +20,7 @@ use Rattle.mm_rules.proofs.States.Vacate.{live_process}
 use Rattle.mm_settled.specs.Calls.{Locks, MakesWithdrawal, Refuses, has_room}
 use Rattle.mm_settled.proofs.Lemmas.Ends.{owner_in_range}
 use Rattle.mm_manager.specs.Permit.{event_limit}
-use Rattle.mm_manager.specs.private.Room.{LabelsWithin, HasReserve}
+use Rattle.mm_manager.specs.private.Room.{LabelsWithin, HasLabels, HasReserve}
 use Rattle.mm_manager.proofs.Lemmas.Fewer.{live_to_end}
 
 -- ---- which test refuses
@@ -199,16 +199,16 @@ module _ (s : TableState) (k : Key) (laws : Laws s) (room : HasReserve s) (live 
   asked_can = asked_can_count s laws room below
 
   -- where somebody owns it, there is a label left for who waits
-  fits_by : (o : Option Key) → ((h : Key) → o ≡ Some h → 2 * s.totals.accepted + 2 ≤ s.config.label_limit) → option_map_or (λ h. not (block_fits s k.process h.process)) o false ≡ false
+  fits_by : (o : Option Key) → ((h : Key) → o ≡ Some h → HasLabels s) → option_map_or (λ h. not (block_fits s k.process h.process)) o false ≡ false
   fits_by None fits = refl
   fits_by (Some h) fits = not_of (block_fits s k.process h.process)
-      (le-leb (label_against s k.process h.process).counter s.config.label_limit (omega (arith, fits h refl, room.by_events k.process, room.by_events h.process)))
+      (le-leb (label_against s k.process h.process).counter s.config.label_limit (omega (arith, fits h refl k.process, fits h refl h.process)))
 
   -- it is not refused whoever owns the number
   pub may_use : allowed (resource_tests s k r) ≡ Ok tt
   may_use = passes_by (counts_exhausted s) (not (is_live s k)) (nat_le s.config.resources r) (is_waiting s k.process) asked_can.counts (ap not live) (lt-leb s.config.resources r in_range) (ap is_some idle)
 
-  pub lock_never : ((h : Key) → owner_of s r ≡ Some h → 2 * s.totals.accepted + 2 ≤ s.config.label_limit) → (u : TableState) (e : Refusal) → Locks s k r (Err e) u → ⊥
+  pub lock_never : ((h : Key) → owner_of s r ≡ Some h → HasLabels s) → (u : TableState) (e : Refusal) → Locks s k r (Err e) u → ⊥
   lock_never fits u e locks = elim locks.1 [
     | inr full ↦ (let never : true ≡ false = sym asked_can.room ∙ full.1 in cc)
     | inl step ↦ each_true Never (acquire_tests s k r) e (

@@ -7,7 +7,7 @@ use Rattle.mm_rules.specs.declared.reply.State.{State}
 use Rattle.mm_rules.specs.declared.refusal.Refusal.TheVariants.{Stale}
 use Rattle.mm_rules.specs.TableState.{TableState, is_live, has_verdict, wait_of, private_of, public_of}
 use Rattle.mm_rules.specs.Event.{mode_of, state_of}
-use Rattle.mm_manager.specs.Permit.{event_limit, may_ask, may_ask_in, may_cancel, may_cancel_in, may_count}
+use Rattle.mm_manager.specs.Permit.{event_limit, may_ask, may_ask_in, may_cancel, may_cancel_in, may_count, may_own}
 use Rattle.mm_manager.specs.declared.refusal.Refusal.TheVariants.{NoTransaction, Waiting, NotWaiting, CountsFull}
 
 -- a live transaction that waits for nothing
@@ -105,3 +105,11 @@ counted s may = elim (cases_lt s.totals.accepted event_limit) [
   | inl below ↦ below
   | inr past ↦ (let never : Err CountsFull ≡ Ok tt = sym (ap (λ (b : Bool). if b then Ok tt else Err CountsFull) (le-ltb s.totals.accepted event_limit past)) ∙ may in absurd (cc))
 ]
+
+owns_by : (s : TableState) (b : Bool) → (if b then may_count s else Err NoTransaction) ≡ Ok tt → (b ≡ true) × (s.totals.accepted < event_limit)
+owns_by s true may = (refl, counted s may)
+owns_by s false may = (let never : Err NoTransaction ≡ Ok tt = may in absurd (cc))
+
+-- who may own one name more is live, and an event may be counted
+pub may_own_is : (s : TableState) (k : Key) → may_own s k ≡ Ok tt → (is_live s k ≡ true) × (s.totals.accepted < event_limit)
+may_own_is s k may = owns_by s (is_live s k) may

@@ -7,11 +7,12 @@ use Rattle.mm_lists.proofs.Lemmas.Set.{read_replicate}
 use Rattle.mm_label.specs.Label.{Label, opening_label}
 use Rattle.mm_names.specs.Names.{nameless}
 use Rattle.mm_rules.specs.declared.config.Config.{Config}
-use Rattle.mm_rules.specs.TableState.{IsInRange, opening, public_of}
+use Rattle.mm_rules.specs.TableState.{IsWide, opening, public_of}
 use Rattle.mm_manager.specs.declared.named.NamedTable.{NamedTable}
 use Rattle.mm_manager.specs.private.Handed.{IsSound}
 use Rattle.mm_manager.specs.private.Numbers.{AreNumbered}
-use Rattle.mm_manager.specs.private.Room.{HasReserve}
+use Rattle.mm_manager.specs.Totals.{nothing_counted}
+use Rattle.mm_manager.specs.private.Room.{LabelsAreCounted, HasReserve}
 
 abbrev one : Bool → ℕ
 one b = cond b 1 0
@@ -29,17 +30,19 @@ opening_counter c p = opening_at c.processes 0 p (opening_label p) refl
     opening_at (suc n) a (suc p) d none = opening_at n (a + 1) p d none
 
 -- no label is given out, and nobody is to end
-opening_room : (c : Config) → IsInRange c → HasReserve (opening c)
+opening_room : (c : Config) → IsWide c → HasReserve (opening c)
 opening_room c range =
     let labels : (p : ℕ) → (public_of (opening c) p).counter ≡ 0 = λ p. opening_counter c p in
     let owned : count_by is_some (opening c).owners ≡ 0 = none_counted is_some None refl c.resources in
     let live : count_by (λ b. b) (opening c).live ≡ 0 = none_counted (λ b. b) false refl c.processes in
     record {
       labels = λ p. omega (arith, labels p);
-      by_events = λ p. omega (arith, labels p);
       events = omega (arith, owned, live);
       aborts = omega arith;
     }
+
+pub opening_labels : (c : Config) → LabelsAreCounted (opening c) nothing_counted
+opening_labels c p = omega (arith, opening_counter c p)
 
 opening_numbered : (c : Config) (name_bytes : ℕ) → AreNumbered (opening c) (nameless c.resources name_bytes)
 opening_numbered c name_bytes = record {
@@ -47,5 +50,5 @@ opening_numbered c name_bytes = record {
   named = λ n. ((λ none. read_replicate None c.resources n), (λ none. read_replicate None c.resources n));
 }
 
-pub opening_sound : (c : Config) (name_bytes : ℕ) (t : NamedTable) → IsInRange c → t.table.table ≡ opening c → t.names ≡ nameless c.resources name_bytes → IsSound t
+pub opening_sound : (c : Config) (name_bytes : ℕ) (t : NamedTable) → IsWide c → t.table.table ≡ opening c → t.names ≡ nameless c.resources name_bytes → IsSound t
 opening_sound c name_bytes t range table names = record { numbered = rw (table, names) (opening_numbered c name_bytes); left = rw table (opening_room c range) }

@@ -18,11 +18,12 @@ use Rattle.mm_settled.specs.Calls.{Locks, WaitsFrom}
 use Rattle.mm_settled.specs.declared.reply.Locked.{Locked}
 use Rattle.mm_settled.specs.declared.reply.Locked.TheVariants as locked
 use Rattle.mm_settled.proofs.Lemmas.Accepted.{IsAccepted, accepted}
-use Rattle.mm_manager.specs.Calls.{Tries}
-use Rattle.mm_manager.specs.Permit.{event_limit, first_refusal, may_ask, may_count, may_name, may_request}
-use Rattle.mm_manager.specs.Refused.{TryRefused}
+use Rattle.mm_manager.specs.Calls.{AdoptsNumber, Tries}
+use Rattle.mm_manager.specs.Permit.{event_limit, first_refusal, may_adopt, may_ask, may_count, may_name, may_own, may_request}
+use Rattle.mm_manager.specs.Refused.{AdoptRefused, TryRefused}
 use Rattle.mm_manager.specs.declared.refusal.Refusal.{Refusal}
 use Rattle.mm_manager.specs.declared.refusal.Refusal.TheVariants.{CountsFull, NamesFull}
+use Rattle.mm_manager.specs.declared.reply.TryLock.{TryLock}
 use Rattle.mm_manager.specs.declared.reply.TryLock.TheVariants as tried
 use Rattle.mm_manager.specs.private.Numbers.{AreNumbered, bare}
 use Rattle.mm_manager.specs.private.Requests.{tried_by}
@@ -141,17 +142,27 @@ other_key h k apart same =
     let never : true ≡ false = sym is ∙ apart in
     absurd (cc)
 
-tried_by_test : (s : TableState) (t u : NameTable) (k h : Key) (name : List ℕ) (n : ℕ) → name_of t n ≡ Some name → owner_of s n ≡ Some h → u ≡ t
-    → (b : Bool) → (b ≡ true → h ≡ k) → (b ≡ false → h ≢ k) → Tries s t k name (if b then tried.Held else tried.Busy h) s u
-tried_by_test s t u k h name n named owned same true mine apart = ((n, named, subst (λ (g : Key). owner_of s n ≡ Some g) (mine refl) owned), refl, same)
-tried_by_test s t u k h name n named owned same false mine apart = (apart refl, ((n, named, owned), refl, same))
+found_by_test : (P : TryLock → Type 0) (h k : Key) → (h ≡ k → P tried.Held) → (h ≢ k → P (tried.Busy h)) → (b : Bool) → (b ≡ true → h ≡ k) → (b ≡ false → h ≢ k) → P (if b then tried.Held else tried.Busy h)
+found_by_test P h k held busy true mine apart = held (mine refl)
+found_by_test P h k held busy false mine apart = busy (apart refl)
 
--- a try for it finds it so
-pub tried_finds : (s : TableState) (t u : NameTable) (k h : Key) (name : List ℕ) (n : ℕ) → name_of t n ≡ Some name → owner_of s n ≡ Some h → u ≡ t → Tries s t k name (tried_by h k) s u
-tried_finds s t u k h name n named owned same =
-    tried_by_test s t u k h name n named owned same (nat_eq h.process k.process && nat_eq h.generation k.generation) (same_key h k) (other_key h k)
+-- by whether the owner is k
+found_by : (P : TryLock → Type 0) (h k : Key) → (h ≡ k → P tried.Held) → (h ≢ k → P (tried.Busy h)) → P (tried_by h k)
+found_by P h k held busy = found_by_test P h k held busy (nat_eq h.process k.process && nat_eq h.generation k.generation) (same_key h k) (other_key h k)
 
--- ---- a try that gets no number
+module _ (s : TableState) (t u : NameTable) (k h : Key) (name : List ℕ) (n : ℕ) (named : name_of t n ≡ Some name) (owned : owner_of s n ≡ Some h) (same : u ≡ t) where
+  mine : h ≡ k → owner_of s n ≡ Some k
+  mine is = owned ∙ ap Some is
+
+  -- a try for it finds it so
+  pub tried_finds : Tries s t k name (tried_by h k) s u
+  tried_finds = found_by (λ answer. Tries s t k name answer s u) h k (λ is. ((n, named, mine is), refl, same)) (λ apart. (apart, ((n, named, owned), refl, same)))
+
+  -- and so does an adoption
+  pub adoption_finds : AdoptsNumber s t k name (tried_by h k) s u
+  adoption_finds = found_by (λ answer. AdoptsNumber s t k name answer s u) h k (λ is. ((n, named, mine is), refl, same)) (λ apart. (apart, ((n, named, owned), refl, same)))
+
+-- ---- a try and an adoption that get no number
 
 -- where the transaction may ask and an event can be counted, the name alone decides
 pub name_decides : (s : TableState) (name_bytes : ℕ) (k : Key) (name : List ℕ) → may_ask s k ≡ Ok tt → s.totals.accepted < event_limit → may_request s name_bytes k name ≡ may_name name_bytes name
@@ -163,6 +174,15 @@ pub try_refused : (s : TableState) (t : NameTable) (k : Key) (name : List ℕ) (
     → (may_name t.name_bytes name ≡ Err refusal) ⊎ ((may_name t.name_bytes name ≡ Ok tt) × (refusal ≡ NamesFull) × IsRefusedAsFull t name) → TryRefused (bare s t) k name refusal
 try_refused s t k name refusal may few (inl out) = inl (name_decides s t.name_bytes k name may few ∙ out)
 try_refused s t k name refusal may few (inr full) = inr (name_decides s t.name_bytes k name may few ∙ full.0, full.1, full.2)
+
+-- where the transaction may own one name more, the name alone decides
+pub adoption_decides : (s : TableState) (name_bytes : ℕ) (k : Key) (name : List ℕ) → may_own s k ≡ Ok tt → may_adopt s name_bytes k name ≡ may_name name_bytes name
+adoption_decides s name_bytes k name may = ap (λ r. first_refusal r (may_name name_bytes name)) may
+
+pub adoption_refused : (s : TableState) (t : NameTable) (k : Key) (name : List ℕ) (refusal : Refusal) → may_own s k ≡ Ok tt
+    → (may_name t.name_bytes name ≡ Err refusal) ⊎ ((may_name t.name_bytes name ≡ Ok tt) × (refusal ≡ NamesFull) × IsRefusedAsFull t name) → AdoptRefused (bare s t) k name refusal
+adoption_refused s t k name refusal may (inl out) = inl (adoption_decides s t.name_bytes k name may ∙ out)
+adoption_refused s t k name refusal may (inr full) = inr (adoption_decides s t.name_bytes k name may ∙ full.0, full.1, full.2)
 
 -- what holds of the refusal holds of the reply
 pub if_refused : {A : Type 0} (reply : Result A Refusal) (refusal : Refusal) (P : Refusal → Type 0) → IsErr reply × IsErrAnd reply (λ x. x ≡ refusal) → P refusal → IfErr reply P

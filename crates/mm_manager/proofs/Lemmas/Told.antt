@@ -9,10 +9,10 @@ use Rattle.mm_rules.specs.Laws.{Laws}
 use Rattle.mm_rules.proofs.States.Lookups.{waits_here, held}
 use Rattle.mm_settled.specs.Calls.{MadeWithdrawal}
 use Rattle.mm_manager.specs.LockState.{LockState, Owns, Waits, untold}
-use Rattle.mm_manager.specs.Calls.{LocksName, TriesName, Tries, LosesName, LosesAll, Unlocks, Ends, UnlocksName, Commits, TakesBack, Cancels, Aborts}
+use Rattle.mm_manager.specs.Calls.{AdoptsName, AdoptsNumber, LocksName, TriesName, Tries, LosesName, LosesAll, Unlocks, Ends, UnlocksName, Commits, TakesBack, Cancels, Aborts}
 use Rattle.mm_manager.specs.Calls as calls
 use Rattle.mm_manager.specs.Permit.{may_ask, may_cancel}
-use Rattle.mm_manager.specs.Refused.{TryRefused, UnlockRefused}
+use Rattle.mm_manager.specs.Refused.{AdoptRefused, TryRefused, UnlockRefused}
 use Rattle.mm_manager.specs.Totals.{after_lock, after_commit, after_abort, after_cancel}
 use Rattle.mm_manager.specs.declared.named.NamedTable.{NamedTable}
 use Rattle.mm_manager.specs.declared.totals.Totals.{Totals}
@@ -26,6 +26,7 @@ use Rattle.mm_manager.specs.private.Handed.{HandsOver, HandsAllOver, EndsWaiting
 use Rattle.mm_manager.specs.private.HandsDown.{IsEnding, IsReleased}
 use Rattle.mm_manager.specs.private.Numbers.{AreNumbered, bare}
 use Rattle.mm_manager.specs.private.Requests.{Requested}
+use Rattle.mm_manager.proofs.Lemmas.Adopted.{adopted_is}
 use Rattle.mm_manager.proofs.Lemmas.Asked.{gets, queues}
 use Rattle.mm_manager.proofs.Lemmas.HandsDown.{made_laws, release_hands_down, finish_hands_down}
 use Rattle.mm_manager.proofs.Lemmas.Names.{passes}
@@ -38,7 +39,7 @@ same_untold : (old new : LockState) → new.table ≡ old.table → new.names �
 same_untold old new table names granted totals = λ i. record { table = table i; names = names i; granted = granted i; totals = totals i }
 
 pub asked_locks : (old new : LockState) (k : Key) (name : List ℕ) (reply : Result Lock Refusal) → AreNumbered old.table old.names → Laws old.table → Laws new.table
-    → Requested old.table old.names k name reply new.table new.names → new.granted ≡ [] → new.totals ≡ after_lock old.totals reply → LocksName old k name reply new
+    → Requested old.table old.names old.totals k name reply new.table new.names → new.granted ≡ [] → new.totals ≡ after_lock old.totals reply → LocksName old k name reply new
 asked_locks old new k name (Ok lock.Granted) numbered laws after (may, asks) granted totals = gets old new k name asks.0 numbered asks.1 laws (granted_is old.table new.table k asks.0 asks.2)
 asked_locks old new k name (Ok lock.Held) numbered laws after (may, asks) granted totals = (asks.0, same_untold old new asks.1 asks.2 granted totals)
 asked_locks old new k name (Ok (lock.Waits h)) numbered laws after (may, asks) granted totals =
@@ -61,6 +62,15 @@ tried_locks old new k name (Ok tried.Granted) numbered laws asks refused table n
 tried_locks old new k name (Ok tried.Held) numbered laws asks refused table names granted totals = (asks.0, same_untold old new asks.1 asks.2 granted totals)
 tried_locks old new k name (Ok (tried.Busy h)) numbered laws asks refused table names granted totals = (asks.1.0, asks.0, same_untold old new asks.1.1 asks.1.2 granted totals)
 tried_locks old new k name (Err e) numbered laws asks refused table names granted totals = (same_untold old new table names granted totals, refused)
+
+pub adoption_takes : (old new : LockState) (k : Key) (name : List ℕ) (reply : Result TryLock Refusal) → AreNumbered old.table old.names → Laws old.table
+    → IfOk reply (λ answer. AdoptsNumber old.table old.names k name answer new.table new.names) → IfErr reply (λ refusal. AdoptRefused old k name refusal) → OnErr reply (new.table ≡ old.table) → OnErr reply (new.names ≡ old.names)
+    → new.granted ≡ [] → new.totals ≡ old.totals → AdoptsName old k name reply new
+adoption_takes old new k name (Ok tried.Granted) numbered laws adopts refused table names granted totals =
+    gets old new k name adopts.0 numbered adopts.1 laws (adopted_is old.table new.table k adopts.0 adopts.2)
+adoption_takes old new k name (Ok tried.Held) numbered laws found refused table names granted totals = (found.0, same_untold old new found.1 found.2 granted totals)
+adoption_takes old new k name (Ok (tried.Busy h)) numbered laws found refused table names granted totals = (found.1.0, found.0, same_untold old new found.1.1 found.1.2 granted totals)
+adoption_takes old new k name (Err e) numbered laws adopts refused table names granted totals = (same_untold old new table names granted totals, refused)
 
 -- ---- hand-overs
 

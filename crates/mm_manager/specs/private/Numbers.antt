@@ -6,6 +6,7 @@ use Rattle.mm_rules.specs.declared.reply.Released.TheVariants.{Free, To}
 use Rattle.mm_rules.specs.TableState.{TableState, owner_of}
 use Rattle.mm_manager.specs.LockState.{LockState}
 use Rattle.mm_manager.specs.Totals.{nothing_counted}
+use Rattle.mm_manager.specs.declared.totals.Totals.{Totals}
 
 -- there is a number for each resource, and one has a name exactly while it has an owner
 pub record AreNumbered (s : TableState) (t : NameTable) : Type 0 where
@@ -21,6 +22,10 @@ abbrev pub left_by : Released → NameTable → ℕ → NameTable
 left_by Free t n = with_name t n None
 left_by (To k) t n = t
 
--- a manager of these, in which nothing is told and nothing is counted
+-- a manager of these, in which nothing is told
+abbrev pub silent : TableState → NameTable → Totals → LockState
+silent s t c = record { table = s; names = t; granted = []; totals = c }
+
+-- and nothing is counted
 abbrev pub bare : TableState → NameTable → LockState
-bare s t = record { table = s; names = t; granted = []; totals = nothing_counted }
+bare s t = silent s t nothing_counted

@@ -14,7 +14,8 @@ use Rattle.mm_manager.specs.declared.reply.Lock.{Lock}
 use Rattle.mm_manager.specs.declared.reply.Lock.TheVariants as lock
 use Rattle.mm_manager.specs.declared.reply.TryLock.{TryLock}
 use Rattle.mm_manager.specs.declared.reply.TryLock.TheVariants.{Held, Busy}
-use Rattle.mm_manager.specs.private.Numbers.{bare}
+use Rattle.mm_manager.specs.declared.totals.Totals.{Totals}
+use Rattle.mm_manager.specs.private.Numbers.{silent}
 
 -- the transaction may ask, and an event may be counted
 abbrev pub may_ask_more : TableState → Key → Result (Unit {0}) Refusal
@@ -26,23 +27,23 @@ AnswersNew s k n t (Ok answer) u named = (answer ≡ lock.Granted) × (may_ask_m
 AnswersNew s k n t (Err refusal) u named = (may_ask_more s k ≡ Err refusal) × (u ≡ s) × (named ≡ with_name t n None)
 
 -- what a request for a number that has a name does, by its answer
-abbrev pub AsksFor : TableState → Key → ℕ → Lock → TableState → Type 0
-AsksFor s k n lock.Granted u = Locks s k n (Ok locked.Granted) u
-AsksFor s k n (lock.Waits h) u = (may_wait s ≡ true) × Locks s k n (Ok (locked.Waits h)) u
-AsksFor s k n (lock.Deadlock h) u = (may_wait s ≡ true) × Locks s k n (Ok (locked.Deadlock h)) u
-AsksFor s k n lock.Held u = (owner_of s n ≡ Some k) × (u ≡ s)
+abbrev pub AsksFor : TableState → Totals → Key → ℕ → Lock → TableState → Type 0
+AsksFor s c k n lock.Granted u = Locks s k n (Ok locked.Granted) u
+AsksFor s c k n (lock.Waits h) u = (may_wait s c ≡ true) × Locks s k n (Ok (locked.Waits h)) u
+AsksFor s c k n (lock.Deadlock h) u = (may_wait s c ≡ true) × Locks s k n (Ok (locked.Deadlock h)) u
+AsksFor s c k n lock.Held u = (owner_of s n ≡ Some k) × (u ≡ s)
 
 -- it is answered so, or refused for what the name does not matter to, or since k would wait and there may be no label left for that
-abbrev pub AnswersNamed : TableState → Key → ℕ → Result Lock Refusal → TableState → Type 0
-AnswersNamed s k n (Ok answer) u = (may_ask_more s k ≡ Ok tt) × AsksFor s k n answer u
-AnswersNamed s k n (Err refusal) u =
+abbrev pub AnswersNamed : TableState → Totals → Key → ℕ → Result Lock Refusal → TableState → Type 0
+AnswersNamed s c k n (Ok answer) u = (may_ask_more s k ≡ Ok tt) × AsksFor s c k n answer u
+AnswersNamed s c k n (Err refusal) u =
     (u ≡ s)
-    × ((may_ask_more s k ≡ Err refusal) ⊎ ((may_ask_more s k ≡ Ok tt) × (refusal ≡ LabelsFull) × (may_wait s ≡ false) × ((h : Key) × (h ≢ k) × (owner_of s n ≡ Some h))))
+    × ((may_ask_more s k ≡ Err refusal) ⊎ ((may_ask_more s k ≡ Ok tt) × (refusal ≡ LabelsFull) × (may_wait s c ≡ false) × ((h : Key) × (h ≢ k) × (owner_of s n ≡ Some h))))
 
 -- a request for a name, by what its reply says
-abbrev pub Requested : TableState → NameTable → Key → List ℕ → Result Lock Refusal → TableState → NameTable → Type 0
-Requested s t k name (Ok answer) u named = (may_request s t.name_bytes k name ≡ Ok tt) × Requests s t k name answer u named
-Requested s t k name (Err refusal) u named = LockRefused (bare s t) k name refusal × (u ≡ s) × (named ≡ t)
+abbrev pub Requested : TableState → NameTable → Totals → Key → List ℕ → Result Lock Refusal → TableState → NameTable → Type 0
+Requested s t c k name (Ok answer) u named = (may_request s t.name_bytes k name ≡ Ok tt) × Requests s t c k name answer u named
+Requested s t c k name (Err refusal) u named = LockRefused (silent s t c) k name refusal × (u ≡ s) × (named ≡ t)
 
 -- what a try is told of a name that h owns
 abbrev pub tried_by : Key → Key → TryLock

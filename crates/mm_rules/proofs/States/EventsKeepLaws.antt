@@ -3,7 +3,7 @@ use Rattle.std.proofs.Common.{◌≡◌, ℕ, List, [], ◌∷◌, Bool, true, f
 use Rattle.mm_rules.specs.declared.config.Config.{Config}
 use Rattle.mm_rules.specs.declared.refusal.Refusal.{Refusal}
 use Rattle.mm_rules.specs.declared.reply.Settled.{Settled}
-use Rattle.mm_rules.specs.TableState.{TableState, IsInRange, opening}
+use Rattle.mm_rules.specs.TableState.{TableState, IsWide, opening}
 use Rattle.mm_rules.specs.Event.{Event, Begin, Acquire, Release, Finish, Transmit, Detect, Abort, Settle, GiveUp, Answer, Gives, Step, Run, IsReached, Settles, settled, counts_exhausted}
 use Rattle.mm_rules.specs.Laws.{Laws}
 use Rattle.mm_rules.proofs.States.Opening.{opening_lawful}
@@ -41,5 +41,5 @@ run_keeps : (es : List Event) (old new : TableState) → Run old es new → Laws
 run_keeps [] old new same laws = rw same laws
 run_keeps (e ∷ es) old new (mid, reply, step, rest) laws = run_keeps es mid new rest (event_keeps e old mid reply step laws).laws
 
-pub reached_is_lawful : (c : Config) → IsInRange c → (s : TableState) → IsReached c s → Laws s
+pub reached_is_lawful : (c : Config) → IsWide c → (s : TableState) → IsReached c s → Laws s
 reached_is_lawful c range s (es, run) = run_keeps es (opening c) s run (opening_lawful c range)

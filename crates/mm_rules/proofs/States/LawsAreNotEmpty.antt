@@ -2,7 +2,7 @@
 use Rattle.std.proofs.Common.{ℕ, [], ◌∷◌, IsTrue, refl, arith}
 use Rattle.mm_rules.specs.declared.config.Config.{Config}
 use Rattle.mm_arena.specs.declared.key.Key.{Key}
-use Rattle.mm_rules.specs.TableState.{TableState, IsInRange, opening, has_verdict}
+use Rattle.mm_rules.specs.TableState.{TableState, IsWide, opening, has_verdict}
 use Rattle.mm_rules.specs.Event.{Begin, Acquire, Transmit, Detect, IsReached, begun, acquired, transmitted, detected}
 use Rattle.mm_rules.specs.Laws.{LawsAreNotEmpty}
 
@@ -39,7 +39,7 @@ raised = (transmitted both_wait (k 0)).state
 abbrev convicted : TableState
 convicted = (detected raised (k 1)).state
 
-in_range : IsInRange two
+in_range : IsWide two
 in_range = record {
   processes = (omega arith, omega arith);
   resources = (omega arith, omega arith);

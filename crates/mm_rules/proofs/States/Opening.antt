@@ -9,7 +9,7 @@ use Rattle.mm_lists.proofs.Lemmas.Range.{among_range_gives, no_repeat_range}
 use Rattle.mm_lists.proofs.Lemmas.Set.{read_replicate, slice_get-replicate}
 use Rattle.mm_rules.proofs.States.LabelOrder.{label_le_same}
 use Rattle.mm_rules.specs.declared.config.Config.{Config}
-use Rattle.mm_rules.specs.TableState.{IsInRange, opening, public_of}
+use Rattle.mm_rules.specs.TableState.{IsWide, opening, public_of}
 use Rattle.mm_rules.specs.Laws.{Laws}
 
 count_false : (n : ℕ) → count_by (λ v. v) (replicate n false) ≡ 0
@@ -28,7 +28,7 @@ label_of_process n i = let e : 0 + i ≡ i = omega arith in rw e at (label_read 
 no_verdict : (n v : ℕ) → IsTrue (slice_index_or (replicate n false) v false) → ⊥
 no_verdict n v h = let never : false ≡ true = sym (read_replicate false n v) ∙ h in cc
 
-pub opening_lawful : (c : Config) → IsInRange c → Laws (opening c)
+pub opening_lawful : (c : Config) → IsWide c → Laws (opening c)
 opening_lawful c range = record {
   lawful = record {
     well_formed = record {

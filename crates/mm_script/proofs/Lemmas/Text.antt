@@ -12,6 +12,7 @@ use Rattle.mm_table.specs.refusal.Refusal.{Refusal}
 use Rattle.mm_table.specs.refusal.Refusal.TheVariants.{BadConfig}
 use Rattle.mm_table.specs.TableState.{TableState, IsInRange, opening}
 use Rattle.mm_table.specs.Laws.{Laws}
+use Rattle.mm_table.proofs.States.Wide.{is_wide}
 use Rattle.mm_table.proofs.States.Opening.{opening_lawful}
 use Rattle.mm_table.proofs.States.EventsKeepLaws.{event_keeps}
 use Rattle.mm_table.proofs.States.Sweep.{settles_after}
@@ -109,7 +110,7 @@ answers kind.Malformed table lawful = (reply_line replies_are.Malformed, 1, tabl
 answers (kind.Call call) table lawful = let r = replies call table lawful in (reply_line r.0, 0, r.1, (r.0, r.2, refl, refl))
 
 opens_lawful : (c : Config) (opened : Result TableState Refusal) → Opens c opened → IsLawful (result_ok opened)
-opens_lawful c (Ok s) (range, is) = subst Laws (sym is) (opening_lawful c range)
+opens_lawful c (Ok s) (range, is) = subst Laws (sym is) (opening_lawful c (is_wide c range))
 opens_lawful c (Err e) refused = tt
 
 opens_by_lawful : (header : Header) (c : Config) (opened : Result TableState Refusal) → OpensBy header c opened → IsLawful (result_ok opened)

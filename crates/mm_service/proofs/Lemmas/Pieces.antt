@@ -58,3 +58,11 @@ pub writes_ended : (before after : Option (List ℕ)) (old head body now lost : 
 writes_ended before after old head body now lost is w =
     let P : List ℕ → Type 0 = λ l. Writes before after (old ++ l) lost in
     subst P (sym (append_assoc head body (codes "\n"))) (writes_after before after old head now (line_text body) lost is w)
+
+-- a text is written, kept or lost: then the rest of its line follows
+pub writes_tail : (before after : Option (List ℕ)) (old text more lost : List ℕ) → Writes before after (old ++ text) lost → Writes before after (old ++ line_text (text ++ more)) (lost ++ line_text more)
+writes_tail before after old text more lost w =
+    let same : (old ++ text) ++ line_text more ≡ old ++ line_text (text ++ more) =
+    append_assoc old text (line_text more) ∙ ap (λ l. old ++ l) (sym (append_assoc text more (codes "\n"))) in
+    let P : List ℕ → Type 0 = λ l. Writes before after l (lost ++ line_text more) in
+    subst P same (writes_added before after (old ++ text) lost (line_text more) w)

@@ -1,7 +1,7 @@
 -- What the contracts of private functions say of the forms of requests.
-use Rattle.std.specs.Prelude.{ℕ, List, [], Option, Some, None}
+use Rattle.std.specs.Prelude.{ℕ, List, [], ◌∷◌, Option, Some, None}
 use Rattle.mm_lines.specs.Words.{◌>>=◌}
-use Rattle.mm_service.specs.Forms.{AskedFor}
+use Rattle.mm_service.specs.Forms.{AskedFor, name_of_word}
 use Rattle.mm_service.specs.declared.line.Asked.{Asked}
 
 -- a request, and the bytes of the name that it is about
@@ -18,3 +18,8 @@ abbrev pub request_before : Option AskedFor → List (List ℕ) → Option Asked
 request_before read left = do
   asked ← read
   where_none_left asked left
+
+-- the name that the first word is, or no bytes if there is no word
+abbrev pub name_if_any : List (List ℕ) → Option (List ℕ)
+name_if_any [] = Some []
+name_if_any (word ∷ words) = name_of_word word

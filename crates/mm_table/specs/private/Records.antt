@@ -5,7 +5,7 @@ use Rattle.mm_tagged_lists.specs.declared.spot.Spot.{Spot}
 use Rattle.mm_tagged_lists.specs.TaggedLists.{Listing}
 use Rattle.mm_rules.specs.declared.config.Config.{Config}
 use Rattle.mm_rules.specs.declared.reply.Totals.{Totals}
-use Rattle.mm_rules.specs.TableState.{TableState, IsInRange}
+use Rattle.mm_rules.specs.TableState.{TableState, IsWide}
 use Rattle.mm_table.specs.declared.records.Records.TheInside.{Inside}
 use Rattle.mm_table.specs.declared.labels.ProcessLabels.{ProcessLabels}
 use Rattle.mm_transactions.specs.Transactions.{Transactions}
@@ -39,7 +39,7 @@ state_of_records t = state_of_fields t.config t.transactions t.labels (owners_of
 
 -- There is one slot, one pair of labels and one list of owned resources for each process, and one owner and one queue for each resource.
 pub record FieldsAreSized (c : Config) (t : Transactions) (ls : List ProcessLabels) (o : Listing) : Type 0 where
-  pub config : IsInRange c
+  pub config : IsWide c
   pub slots : length t.live ≡ c.processes
   pub last_generation : t.generation_limit ≡ c.generation_limit
   pub queues : t.resources ≡ c.resources

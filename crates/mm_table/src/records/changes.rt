@@ -9,7 +9,7 @@ use mm_tagged_lists::Spot;
 
 impl Records {
     /// Makes the key the owner of a free resource.
-    pub(super) fn grant(&mut self, key: Key, resource: u32)
+    pub(crate) fn grant(&mut self, key: Key, resource: u32)
         requires resource { resource < self.old.config.resources }
         requires key { key.process < self.old.config.processes }
         requires free { owner_of self.old resource ≡ None }

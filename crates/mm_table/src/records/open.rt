@@ -1,5 +1,6 @@
 //! The opening.
-ghost use Rattle.mm_rules.specs.Event.{Opens};
+ghost use Rattle.std.specs.Prelude.{◌≡◌, IfOk, IfErr};
+ghost use Rattle.mm_rules.specs.TableState.{IsWide, opening};
 
 use super::Records;
 use crate::labels::Labels;
@@ -9,13 +10,12 @@ use mm_transactions::Transactions;
 use std::alloc::Global;
 
 impl Records {
-    /// The opening of this configuration. Takes memory once for each part.
+    /// The opening of this configuration, whose numbers are in range. Takes memory once for each part.
     pub fn open(alloc: Global, config: Config) -> Result<Records, Refusal>
-        ensures { Opens config result }
+        requires { IsWide config }
+        ensures opened { IfOk result (λ records. records ≡ opening config) }
+        ensures memory { IfErr result (λ refusal. refusal ≡ Refusal.Memory) }
     {
-        if !config.is_in_range() {
-            return Err(Refusal::BadConfig);
-        }
         let Ok(transactions) = Transactions::new(
             alloc,
             config.processes,

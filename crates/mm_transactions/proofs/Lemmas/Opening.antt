@@ -3,6 +3,7 @@ use Rattle.std.proofs.Common.{◌≡◌, ℕ, zero, suc, ◌≤◌, List, [], le
 use Rattle.std.proofs.lemmas.List.{length-replicate}
 use Rattle.mm_arena.specs.declared.key.Key.{Key}
 use Rattle.mm_arena.specs.Slots.{Place, never_used, opening_slots}
+use Rattle.mm_links.specs.Link.{none_number}
 use Rattle.mm_lists.proofs.Lemmas.Set.{read_replicate}
 use Rattle.mm_queue.specs.Queues.{empty_queues}
 use Rattle.mm_transactions.specs.declared.transaction.Entry.{Entry}
@@ -23,7 +24,7 @@ pub opened : (ns : List ℕ) (processes resources limit : ℕ) → seen ns (open
 opened ns processes resources limit =
     rw (same_for_each (λ p. p.generation) processes, same_for_each (λ p. is_some p.value) processes, same_for_each verdict_in processes, waits_none ns processes, length-replicate {A = List Key} resources []) refl
 
-pub open_consistent : (ns : List ℕ) (processes resources limit : ℕ) → length ns ≡ processes → processes ≤ 1048576 → resources ≤ 1048576 → IsConsistent ns (opening_slots processes limit) (empty_queues resources processes) 0 0
+pub open_consistent : (ns : List ℕ) (processes resources limit : ℕ) → length ns ≡ processes → processes ≤ 1048576 → resources ≤ none_number → IsConsistent ns (opening_slots processes limit) (empty_queues resources processes) 0 0
 open_consistent ns processes resources limit as_many few few_lists =
     let none : (n : ℕ) (a : Arrival) → slice_index_or (arrivals_from ns 0 (replicate processes never_used)) n None ≡ Some a → ⊥ =
     λ n a there. gone (sym (ap (λ (xs : List (Option Arrival)). slice_index_or xs n None) (none_at_opening ns 0 processes) ∙ read_replicate None processes n) ∙ there) in

@@ -4,6 +4,7 @@ use Rattle.std.specs.Option.{option_map, option_map_or}
 use Rattle.std.specs.List.{filter_map}
 use Rattle.mm_arena.specs.declared.key.Key.{Key}
 use Rattle.mm_arena.specs.Slots.{Slots, Place}
+use Rattle.mm_links.specs.Link.{none_number}
 use Rattle.mm_lists.specs.Order.{in_order}
 use Rattle.mm_queue.specs.Queues.{Queues, queue}
 use Rattle.mm_rules.specs.TableState.{Wait}
@@ -66,7 +67,7 @@ pub record IsConsistent (numbers : List ℕ) (slots : Slots Entry) (queues : Que
   pub sized : length slots.places ≡ queues.processes
   pub as_many : length numbers ≡ length slots.places
   pub few : queues.processes ≤ 1048576
-  pub few_lists : length queues.lists ≤ 1048576
+  pub few_lists : length queues.lists ≤ none_number
   pub in_range : Each (λ a. a.wait.resource < length queues.lists) (arrivals_from numbers 0 slots.places)
   pub numbered : Each (λ a. a.number ≤ latest) (arrivals_from numbers 0 slots.places)
   pub linked : IsLinked queues (waits_of (arrivals_from numbers 0 slots.places))

@@ -45,20 +45,21 @@ pub fn each_name_is_known<R: Wait + Clock + Abort>(rt: &R, locks: &ThinLocks) ->
     2
 }
 
-/// Twelve names, of which each is nine to twelve times as long as the one before is not, and the longest that there can be.
-static NAMES: [&[u8]; 12] = [
-    b"1", b"2", b"3", b"4", b"5", b"6", b"7", b"8", b"9", b"10", b"11", &[7; 80],
+/// More names than a worker has records, and the longest that there can be.
+static NAMES: [&[u8]; 20] = [
+    b"1", b"2", b"3", b"4", b"5", b"6", b"7", b"8", b"9", b"10", b"11", b"12", b"13", b"14", b"15",
+    b"16", b"17", b"18", b"19", &[7; 80],
 ];
 
 /// Locks more names than a worker has records, and one that is too long for a record, and gives half of them back before the end.
-pub fn nine_names_and_a_long_one<R: Wait + Clock + Abort>(rt: &R, locks: &ThinLocks) -> u64 {
+pub fn many_names_and_a_long_one<R: Wait + Clock + Abort>(rt: &R, locks: &ThinLocks) -> u64 {
     let mut session = session(rt, locks);
     for _ in 0..2 {
         let mut transaction = session.begin();
         for name in NAMES {
             same(rt, is_done(transaction.lock(name)), Ok(true));
         }
-        for name in &NAMES[6..] {
+        for name in &NAMES[10..] {
             same(rt, is_done(transaction.unlock(name)), Ok(true));
             same(
                 rt,

@@ -8,8 +8,8 @@ use std::time::Clock;
 /// How many names the first thread owns: more than an end hands over at a time.
 const MANY: u16 = 1_000;
 
-/// The first name that a transaction locks in the manager, after eight by their words.
-const FIRST_KNOWN: u16 = 8;
+/// The first name that a transaction locks in the manager, after sixteen by their words.
+const FIRST_KNOWN: u16 = 16;
 
 /// How often it ends. It is enough that the other thread sees one end between two portions.
 const ROUNDS: u32 = 50;

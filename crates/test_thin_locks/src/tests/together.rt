@@ -81,8 +81,9 @@ pub fn cross_once<R: Wait + Clock + Abort>(
 }
 
 /// More names than a worker has records.
-static TEN: [&[u8]; 10] = [
-    b"north", b"east", b"south", b"west", b"1", b"2", b"3", b"4", b"5", b"6",
+static NAMES: [&[u8]; 18] = [
+    b"north", b"east", b"south", b"west", b"a", b"b", b"c", b"d", b"e", b"f", b"g", b"h", b"i",
+    b"j", b"k", b"l", b"m", b"n",
 ];
 
 /// How often each of two threads makes a transaction at a manager that has room for one name.
@@ -91,14 +92,14 @@ const ROUNDS: usize = 5_000;
 /// Owns the second name for some while, and gives it back, at times before the end. The manager may have no room for it.
 fn hold<R: Wait + Clock + Abort>(rt: &R, session: &mut Session<'_, R>, round: usize) {
     let mut transaction = session.begin();
-    if let Err(LockError::NamesFull) = is_done(transaction.lock(TEN[1])) {
+    if let Err(LockError::NamesFull) = is_done(transaction.lock(NAMES[1])) {
         return;
     }
     for _ in 0..round % 64 {
-        same(rt, is_done(transaction.lock(TEN[1])), Ok(true));
+        same(rt, is_done(transaction.lock(NAMES[1])), Ok(true));
     }
     if round % 2 == 0 {
-        same(rt, is_done(transaction.unlock(TEN[1])), Ok(true));
+        same(rt, is_done(transaction.unlock(NAMES[1])), Ok(true));
     }
     same(rt, is_done(transaction.commit()), Ok(true));
 }
@@ -106,7 +107,7 @@ fn hold<R: Wait + Clock + Abort>(rt: &R, session: &mut Session<'_, R>, round: us
 /// Locks the first name, and then the second one. The manager has no room for both, if it is to have them.
 fn want<R: Wait + Clock + Abort>(rt: &R, session: &mut Session<'_, R>) {
     let mut transaction = session.begin();
-    for name in [TEN[0], TEN[1]] {
+    for name in [NAMES[0], NAMES[1]] {
         match is_done(transaction.lock(name)) {
             Err(LockError::NamesFull) => {}
             answer => same(rt, answer, Ok(true)),
@@ -115,11 +116,11 @@ fn want<R: Wait + Clock + Abort>(rt: &R, session: &mut Session<'_, R>) {
     same(rt, is_done(transaction.commit()), Ok(true));
 }
 
-/// How many of the ten names one transaction can lock.
+/// How many of the names one transaction can lock.
 fn count_free<R: Wait + Clock + Abort>(rt: &R, session: &mut Session<'_, R>) -> u64 {
     let mut transaction = session.begin();
     let mut owned = 0u64;
-    for name in TEN {
+    for name in NAMES {
         match is_done(transaction.lock(name)) {
             Err(LockError::NamesFull) => {}
             answer => {
@@ -140,7 +141,7 @@ pub fn share_one_place<R: Wait + Clock + Abort>(
     number: usize,
 ) -> u64 {
     let mut session = session(rt, locks);
-    let mut least = TEN.len() as u64;
+    let mut least = NAMES.len() as u64;
     for round in 0..ROUNDS {
         gate.wait(rt);
         if number == 0 {

@@ -18,7 +18,7 @@ pub returns-in_default : goal.returns-in_default
 returns-in_default c = λ has.
     let transactions = one_read _ (λ bs r. ParsesUnsigned 32 10 bs r × ExplainsUnsignedError 10 bs r × HasUnsignedDigitsIfOk bs r) 32 1 65536 (found_of c.args.own.now) (codes "transactions")
     c.get_one.result c.get_one.ensures.value (λ u x g. g.0) (omega arith) has.0 in
-    let names = one_read _ (λ bs r. ParsesUnsigned 32 10 bs r × ExplainsUnsignedError 10 bs r × HasUnsignedDigitsIfOk bs r) 32 1 65536 (found_of c.args.own.now) (codes "names")
+    let names = one_read _ (λ bs r. ParsesUnsigned 32 10 bs r × ExplainsUnsignedError 10 bs r × HasUnsignedDigitsIfOk bs r) 32 1 16777216 (found_of c.args.own.now) (codes "names")
     c.get_one-2.result c.get_one-2.ensures.value (λ u x g. g.0) (omega arith) has.1 in
     let name_bytes = one_read _ (λ bs r. ParsesUnsigned 32 10 bs r × ExplainsUnsignedError 10 bs r × HasUnsignedDigitsIfOk bs r) 32 1 1024 (found_of c.args.own.now) (codes "name-bytes")
     c.get_one-3.result c.get_one-3.ensures.value (λ u x g. g.0) (omega arith) has.2 in
@@ -32,7 +32,7 @@ pub returns-then-not-are_limits : goal.returns-then-not-are_limits
 returns-then-not-are_limits c = λ has.
     let transactions = one_read _ (λ bs r. ParsesUnsigned 32 10 bs r × ExplainsUnsignedError 10 bs r × HasUnsignedDigitsIfOk bs r) 32 1 65536 (found_of c.args.own.now) (codes "transactions")
     c.get_one.result c.get_one.ensures.value (λ u x g. g.0) (omega arith) has.0 in
-    let names = one_read _ (λ bs r. ParsesUnsigned 32 10 bs r × ExplainsUnsignedError 10 bs r × HasUnsignedDigitsIfOk bs r) 32 1 65536 (found_of c.args.own.now) (codes "names")
+    let names = one_read _ (λ bs r. ParsesUnsigned 32 10 bs r × ExplainsUnsignedError 10 bs r × HasUnsignedDigitsIfOk bs r) 32 1 16777216 (found_of c.args.own.now) (codes "names")
     c.get_one-2.result c.get_one-2.ensures.value (λ u x g. g.0) (omega arith) has.1 in
     let name_bytes = one_read _ (λ bs r. ParsesUnsigned 32 10 bs r × ExplainsUnsignedError 10 bs r × HasUnsignedDigitsIfOk bs r) 32 1 1024 (found_of c.args.own.now) (codes "name-bytes")
     c.get_one-3.result c.get_one-3.ensures.value (λ u x g. g.0) (omega arith) has.2 in

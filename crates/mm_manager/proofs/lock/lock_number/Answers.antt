@@ -1,6 +1,5 @@
 use Rattle.std.proofs.Common.{Err}
 use Rattle.mm_settled.specs.Calls.{Locks}
-use Rattle.mm_manager.proofs.Lemmas.Asked.{label_left}
 use Rattle.mm_manager.proofs.Lemmas.Limits.{lock_never}
 use Rattle.mm_manager.proofs.Lemmas.May.{asks}
 use Rattle.mm_manager.proofs.Lemmas.Owners.{not_mine}
@@ -15,4 +14,4 @@ unreachable-requires c =
     let may = asks s k c.requires.may in
     let locks : Locks s k r (Err c.in_default.field-0) c.acquire.new.self.table = rw c.in_default.is at c.acquire.ensures.locks in
     lock_never s k laws c.requires.left may.live may.idle c.requires.counted r c.requires.in_range (not_mine s k r laws may.live c.requires.another)
-    (λ h owned. label_left s (c.requires.label h owned)) c.acquire.new.self.table c.in_default.field-0 locks
+    c.requires.label c.acquire.new.self.table c.in_default.field-0 locks

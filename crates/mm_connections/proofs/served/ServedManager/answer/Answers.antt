@@ -2,6 +2,7 @@ use Rattle.std.proofs.Common.{◌≡◌, ◌∙◌, ◌≤◌, length, ℕ, Bool
 use Rattle.std.specs.Bool.{if◌then◌else◌}
 use Rattle.std.specs.Result.{result_and}
 use Rattle.mm_service.specs.Reply.{line_text}
+use Rattle.mm_service.proofs.Lemmas.Config.{keeps_room}
 use Rattle.mm_service.proofs.Lemmas.Pieces.{writes_printed}
 use Rattle.mm_connections.specs.declared.line.Said.{Said}
 use Rattle.mm_connections.specs.declared.line.Said.TheVariants as said
@@ -84,3 +85,6 @@ returns-in-Asks-clause-answered g c =
     let L = λ (s : Said). AnswersSaid s says.name h did.0 0 new in
     let M = λ (n : List ℕ). AnswersSaid (said.Asks c.in-Asks.connection c.in-Asks.request) n h did.0 0 new in
     (did.0, 0, did.1, subst L line (subst M c.said_of-named.ensures.name (did.2, did.3, refl)), did.4, rw c.and-in-Asks.ensures (not_malformed _ _ did.5))
+
+pub returns-in-HangsUp-clause-numbers : goal.returns-in-HangsUp-clause-numbers
+returns-in-HangsUp-clause-numbers g c = keeps_room c.args.self.now.manager c.hang_up-outcome.new.self.manager c.args.numbers.now c.hang_up-outcome.ensures.config c.requires.numbers

@@ -3,7 +3,7 @@ use Rattle.std.proofs.lemmas.Result.{IfOk-from_err}
 use Rattle.mm_manager.specs.LockState.{LockState}
 use Rattle.mm_connections.specs.Hub.{Hub}
 use Rattle.mm_connections.specs.private.Served.{hub_of}
-use Rattle.mm_connections.proofs.Lemmas.Config.{replies_config}
+use Rattle.mm_service.proofs.Lemmas.Config.{replies_config}
 use Rattle.mm_connections.proofs.Lemmas.Outcomes.{none_fewer}
 use Rattle.mm_connections.proofs.served.ServedManager.ask.Goals as goal
 

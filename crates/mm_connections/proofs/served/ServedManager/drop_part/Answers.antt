@@ -4,7 +4,7 @@ use Rattle.mm_connections.specs.Begun.{aside_list}
 use Rattle.mm_connections.specs.Hub.{Hub}
 use Rattle.mm_connections.specs.Text.{Drops, DropsAll, told_text}
 use Rattle.mm_connections.specs.private.Served.{hub_of}
-use Rattle.mm_connections.proofs.Lemmas.Config.{aborts_config}
+use Rattle.mm_service.proofs.Lemmas.Config.{aborts_config}
 use Rattle.mm_connections.proofs.Lemmas.Drops.{drops_more, drops_end, take_none}
 use Rattle.mm_connections.proofs.Lemmas.Lines.{writes_told}
 use Rattle.mm_connections.proofs.served.ServedManager.drop_part.Goals as goal

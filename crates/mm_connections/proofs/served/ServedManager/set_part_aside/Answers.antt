@@ -4,7 +4,7 @@ use Rattle.mm_connections.specs.Begun.{open_list}
 use Rattle.mm_connections.specs.Hub.{Hub}
 use Rattle.mm_connections.specs.Text.{SetsAside, SetsAllAside, to_set_aside}
 use Rattle.mm_connections.specs.private.Served.{hub_of}
-use Rattle.mm_connections.proofs.Lemmas.Config.{cancels_config}
+use Rattle.mm_service.proofs.Lemmas.Config.{cancels_config}
 use Rattle.mm_connections.proofs.Lemmas.Drops.{sets_more, sets_end, take_none}
 use Rattle.mm_connections.proofs.served.ServedManager.set_part_aside.Goals as goal
 

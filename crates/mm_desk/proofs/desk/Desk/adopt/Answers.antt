@@ -2,6 +2,7 @@ use Rattle.std.proofs.Common.{◌<◌, ℕ, List, refl, sym, ap, ◌∙◌, subs
 use Rattle.std.specs.Prelude.{Option, slice_get, ◌/◌}
 use Rattle.mm_arena.specs.declared.key.Key.{Key}
 use Rattle.mm_lists.specs.Members.{Among}
+use Rattle.mm_thin.specs.declared.worker.TheConstants.{RECORDS}
 use Rattle.mm_thin.specs.Parts.{OfficeState}
 use Rattle.mm_desk.specs.Desk.{DeskState}
 use Rattle.mm_desk.specs.Calls.{GrowsBy, IsOffered, IsTakenOver, FailsToAdopt, OwnersStay}
@@ -24,7 +25,7 @@ invariant_of-self-in-Ok c =
     desk_lent c.self.inside.books c.self.inside.office c.self.inside.keys.items c.self.inside.lent_to.items c.self.invariant c.offer.new.books c.offer.ensures.spread c.fatten.new.self (ap (λ (o : OfficeState). o.of) c.fatten.ensures.rest)
     c.args.bucket c.in-WasThin.number c.in-WasThin.name c.offer.ensures.stay c.in-WasThin.ensures.gets.1 c.in-WasThin.ensures.gets.0 low
     (subst (λ (name : List ℕ). GrowsBy c.self.inside.books.manager name c.offer.new.books.manager) c.as_slice.ensures c.offer.ensures.grows)
-    (subst (λ (name : List ℕ). IsTakenOver c.offer.new.books (slice_get c.self.inside.keys.items (c.in-WasThin.number / 10)) c.args.bucket name) c.as_slice.ensures
+    (subst (λ (name : List ℕ). IsTakenOver c.offer.new.books (slice_get c.self.inside.keys.items (c.in-WasThin.number / RECORDS)) c.args.bucket name) c.as_slice.ensures
     (subst (λ (key : Option Key). IsTakenOver c.offer.new.books key c.args.bucket c.as_slice.result.now) c.key_of_record.ensures c.in-Ok.ensures.ok))
 
 pub invariant_of-self-in-Err : goal.invariant_of-self-in-Err
@@ -49,5 +50,5 @@ pub returns-in-Err-clause-refused : goal.returns-in-Err-clause-refused
 returns-in-Err-clause-refused c =
     let new : DeskState = record { manager = c.offer.new.books.manager; office = c.thin_again.new.self; keys = c.self.inside.keys.items } in
     subst (λ (s : DeskState). FailsToAdopt s c.args.bucket c.in-Err.refusal new) c.self.view_is
-    (not_adopted c.self.inside.books c.offer.new.books c.self.inside.office c.self.inside.keys.items (c.in-WasThin.number / 10) c.args.bucket c.as_slice.result.now c.in-Err.refusal new c.self.invariant.spread refl
+    (not_adopted c.self.inside.books c.offer.new.books c.self.inside.office c.self.inside.keys.items (c.in-WasThin.number / RECORDS) c.args.bucket c.as_slice.result.now c.in-Err.refusal new c.self.invariant.spread refl
     (subst (λ (key : Option Key). IsOffered c.self.inside.books key c.args.bucket c.as_slice.result.now c.in-Err.refusal c.offer.new.books) c.key_of_record.ensures c.in-Err.ensures.refused))

@@ -2,6 +2,7 @@ use Rattle.std.proofs.Common.{◌≡◌, ◌<◌, ◌/◌, ℕ, Bool, true, fals
 use Rattle.std.specs.Prelude.{slice_get}
 use Rattle.std.specs.Bool.{OnTrue}
 use Rattle.mm_lists.specs.Members.{Among}
+use Rattle.mm_thin.specs.declared.worker.TheConstants.{RECORDS}
 use Rattle.mm_thin.specs.declared.views.DeskView.{DeskView}
 use Rattle.mm_thin.specs.Parts.{OfficeState}
 use Rattle.mm_thin.specs.declared.views.Lent.{Lent}
@@ -57,4 +58,4 @@ returns-clause-lent c = on_true c.is_of.result (IsLentTo c.args.self.now c.args.
     let size = c.self.invariant.sized in
     let is = count_is c.self.inside.lent_to.items c.args.bucket c.index.result.now (omega arith) c.index.ensures in
     subst (λ (d : DeskState). IsLentTo d c.args.bucket c.args.key) c.self.view_is
-    (loan.0, loan.1, loan.2, ap (λ n. slice_get c.self.inside.keys.items (n / 10)) (sym listed ∙ sym is) ∙ c.is_of.ensures.0 yes)))
+    (loan.0, loan.1, loan.2, ap (λ n. slice_get c.self.inside.keys.items (n / RECORDS)) (sym listed ∙ sym is) ∙ c.is_of.ensures.0 yes)))

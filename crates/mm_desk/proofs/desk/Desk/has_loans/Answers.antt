@@ -1,6 +1,7 @@
 use Rattle.std.proofs.Common.{◌≡◌, ◌↔◌, ◌<◌, ℕ, Some, length, sym, ap, ◌∙◌, subst, inl, inr, arith}
 use Rattle.std.specs.Prelude.{◌/◌, slice_get, slice_index}
 use Rattle.std.proofs.lemmas.Bool.{cases_eq}
+use Rattle.mm_thin.specs.declared.worker.TheConstants.{RECORDS}
 use Rattle.mm_lists.specs.Members.{Among}
 use Rattle.mm_rules.specs.TableState.{owner_of}
 use Rattle.mm_manager.specs.LockState.{LockState}
@@ -44,4 +45,4 @@ pub returns-then-has_lent_number-clause-lent : goal.returns-then-has_lent_number
 returns-then-has_lent_number-clause-lent c =
     let lent = c.if-has_lent_number.ensures.lent in
     let loan = lent.1 in
-    (lent.0, (loan.0, c.loop-k.invariant.2 loan.0 loan.1, loan.2, ap (λ ks. slice_get ks (loan.0.number / 10)) (sym c.loop-k.invariant.0.keys) ∙ loan.3))
+    (lent.0, (loan.0, c.loop-k.invariant.2 loan.0 loan.1, loan.2, ap (λ ks. slice_get ks (loan.0.number / RECORDS)) (sym c.loop-k.invariant.0.keys) ∙ loan.3))

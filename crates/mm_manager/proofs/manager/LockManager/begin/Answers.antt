@@ -10,6 +10,7 @@ use Rattle.mm_manager.specs.declared.refusal.Refusal.{Refusal}
 use Rattle.mm_manager.specs.private.Handed.{seen}
 use Rattle.mm_manager.proofs.Lemmas.Requests.{one_key}
 use Rattle.mm_manager.proofs.Lemmas.Counted.{begin_counted, counts_fit}
+use Rattle.mm_manager.proofs.Lemmas.CallLabels.{begun_labels}
 use Rattle.mm_manager.proofs.manager.LockManager.begin.Goals as goal
 
 pub count_begin-requires : goal.count_begin-requires
@@ -22,7 +23,11 @@ pub invariant_of-self : goal.invariant_of-self
 invariant_of-self c =
     let i = c.self.inside in
     let done = c.begin-answer in
-    record { sound = done.ensures.sound; counted = rw c.count_begin.ensures (begin_counted i.totals i.named.table.table done.new.self.table.table done.result c.self.invariant.counted done.ensures.begun done.ensures.same) }
+    record {
+      sound = done.ensures.sound;
+      counted = rw c.count_begin.ensures (begin_counted i.totals i.named.table.table done.new.self.table.table done.result c.self.invariant.counted done.ensures.begun done.ensures.same);
+      labels = rw c.count_begin.ensures (begun_labels i.totals i.named.table.table done.new.self.table.table done.result c.self.invariant.labels done.ensures.begun done.ensures.same);
+    }
 
 -- the first free slot is the key's, and no two live keys have one slot
 own_slot : (old : TableState) (m : LockState) (answer : Result Key Refusal) → Laws old → Laws m.table → IfOk answer (λ k. Step Begin old (Ok k) m.table) → IfOk answer (λ k. HasOwnSlot m k)

@@ -4,6 +4,7 @@ use Rattle.mm_manager.specs.Calls.{Cancels}
 use Rattle.mm_manager.specs.private.Handed.{seen}
 use Rattle.mm_manager.proofs.Lemmas.Told.{cancels}
 use Rattle.mm_manager.proofs.Lemmas.Counted.{cancel_counted, counts_fit}
+use Rattle.mm_manager.proofs.Lemmas.CallLabels.{cancel_labels}
 use Rattle.mm_manager.proofs.manager.LockManager.cancel.Goals as goal
 
 pub returns-clause-cancels : goal.returns-clause-cancels
@@ -23,4 +24,8 @@ pub invariant_of-self : goal.invariant_of-self
 invariant_of-self c =
     let i = c.self.inside in
     let done = c.cancel-answer in
-    record { sound = done.ensures.sound; counted = rw c.count_cancel.ensures (cancel_counted i.totals i.named done.new.self c.args.key c.self.invariant.counted done.result done.ensures.made done.ensures.table) }
+    record {
+      sound = done.ensures.sound;
+      counted = rw c.count_cancel.ensures (cancel_counted i.totals i.named done.new.self c.args.key c.self.invariant.counted done.result done.ensures.made done.ensures.table);
+      labels = rw c.count_cancel.ensures (cancel_labels i.totals i.named done.new.self c.args.key c.self.invariant.labels done.result done.ensures.made done.ensures.table);
+    }

@@ -4,6 +4,7 @@ use Rattle.mm_manager.specs.Calls.{Commits}
 use Rattle.mm_manager.specs.private.Handed.{seen}
 use Rattle.mm_manager.proofs.Lemmas.Told.{commits}
 use Rattle.mm_manager.proofs.Lemmas.Counted.{commit_counted, counts_fit}
+use Rattle.mm_manager.proofs.Lemmas.CallLabels.{commit_labels}
 use Rattle.mm_manager.proofs.manager.LockManager.commit.Goals as goal
 
 pub returns-clause-commits : goal.returns-clause-commits
@@ -23,4 +24,9 @@ pub invariant_of-self : goal.invariant_of-self
 invariant_of-self c =
     let i = c.self.inside in
     let done = c.commit-answer in
-    record { sound = done.ensures.sound; counted = rw c.count_commit.ensures (commit_counted i.totals i.named done.new.self c.args.key c.self.invariant.counted done.result done.ensures.handed done.ensures.untouched) }
+    record {
+      sound = done.ensures.sound;
+      counted = rw c.count_commit.ensures (commit_counted i.totals i.named done.new.self c.args.key c.self.invariant.counted done.result done.ensures.handed done.ensures.untouched);
+      labels = rw c.count_commit.ensures
+          (commit_labels i.totals i.named done.new.self c.args.key c.is_at_rest.ensures.laws c.self.invariant.labels done.result done.ensures.handed done.ensures.untouched);
+    }

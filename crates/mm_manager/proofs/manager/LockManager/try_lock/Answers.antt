@@ -4,6 +4,7 @@ use Rattle.mm_manager.specs.Calls.{TriesName}
 use Rattle.mm_manager.specs.private.Handed.{seen}
 use Rattle.mm_manager.proofs.Lemmas.Told.{tried_locks}
 use Rattle.mm_manager.proofs.Lemmas.Counted.{try_counted}
+use Rattle.mm_manager.proofs.Lemmas.CallLabels.{try_labels}
 use Rattle.mm_manager.proofs.manager.LockManager.try_lock.Goals as goal
 
 pub returns-clause-tries : goal.returns-clause-tries
@@ -23,4 +24,5 @@ invariant_of-self c =
     record {
       sound = done.sound;
       counted = try_counted i.totals i.named.table.table now.self.table.table i.named.names now.self.names c.args.key c.args.name.now c.try_lock.result c.self.invariant.counted done.tried done.table;
+      labels = try_labels i.totals i.named.table.table now.self.table.table i.named.names now.self.names c.args.key c.args.name.now c.try_lock.result c.self.invariant.labels done.tried done.table;
     }

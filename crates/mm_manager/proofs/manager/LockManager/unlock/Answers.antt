@@ -4,6 +4,7 @@ use Rattle.mm_manager.specs.Calls.{UnlocksName}
 use Rattle.mm_manager.specs.private.Handed.{seen}
 use Rattle.mm_manager.proofs.Lemmas.Told.{unlocks}
 use Rattle.mm_manager.proofs.Lemmas.Counted.{unlock_counted}
+use Rattle.mm_manager.proofs.Lemmas.CallLabels.{unlock_labels}
 use Rattle.mm_manager.proofs.manager.LockManager.unlock.Goals as goal
 
 pub returns-clause-unlocks : goal.returns-clause-unlocks
@@ -17,4 +18,8 @@ pub invariant_of-self : goal.invariant_of-self
 invariant_of-self c =
     let i = c.self.inside in
     let done = c.unlock-answer in
-    record { sound = done.ensures.sound; counted = unlock_counted i.totals i.named done.new.self c.args.key c.self.invariant.counted c.args.name.now done.result done.ensures.handed done.ensures.untouched }
+    record {
+      sound = done.ensures.sound;
+      counted = unlock_counted i.totals i.named done.new.self c.args.key c.self.invariant.counted c.args.name.now done.result done.ensures.handed done.ensures.untouched;
+      labels = unlock_labels i.totals i.named done.new.self c.args.key c.is_at_rest.ensures.laws c.self.invariant.labels c.args.name.now done.result done.ensures.handed done.ensures.untouched;
+    }

@@ -21,12 +21,12 @@ given c = elim c.in-Ok.ensures.interned [
 
 pub returns-in-Ok-clause-requested : goal.returns-in-Ok-clause-requested
 returns-in-Ok-clause-requested c =
-    new_requested c.args.self.now.table.table c.request_new.new.self.table.table c.args.self.now.names c.entry_of.new.names c.args.key c.args.name.now c.in-Ok.field-0.number c.in-Ok.ensures.allowed
+    new_requested c.args.self.now.table.table c.request_new.new.self.table.table c.args.self.now.names c.entry_of.new.names c.args.totals.now c.args.key c.args.name.now c.in-Ok.field-0.number c.in-Ok.ensures.allowed
     c.request_new.new.self.names (fresh c) (given c).0 (given c).1 c.request_new.result c.request_new.ensures.answers
 
 pub returns-in-Ok-clause-numbered : goal.returns-in-Ok-clause-numbered
 returns-in-Ok-clause-numbered c =
-    new_numbered c.args.self.now.table.table c.request_new.new.self.table.table c.args.self.now.names c.entry_of.new.names c.args.key c.args.name.now c.in-Ok.field-0.number c.in-Ok.ensures.allowed
+    new_numbered c.args.self.now.table.table c.request_new.new.self.table.table c.args.self.now.names c.entry_of.new.names c.args.totals.now c.args.key c.args.name.now c.in-Ok.field-0.number c.in-Ok.ensures.allowed
     c.request_new.new.self.names (fresh c) (given c).0 (given c).1 c.requires.sound.numbered c.is_at_rest.ensures.laws c.request_new.result c.request_new.ensures.answers
 
 -- ---- the name has a number
@@ -39,19 +39,19 @@ known c = elim c.in-Ok.ensures.interned [
 
 pub returns-in-Ok-2-clause-requested : goal.returns-in-Ok-2-clause-requested
 returns-in-Ok-2-clause-requested c =
-    named_requested c.args.self.now.table.table c.request_named.new.table.table c.args.self.now.names c.entry_of.new.names c.args.key c.args.name.now c.in-Ok.field-0.number c.in-Ok.ensures.allowed
+    named_requested c.args.self.now.table.table c.request_named.new.table.table c.args.self.now.names c.entry_of.new.names c.args.totals.now c.args.key c.args.name.now c.in-Ok.field-0.number c.in-Ok.ensures.allowed
     (known c).0 (known c).1 c.request_named.result c.request_named.ensures
 
 pub returns-in-Ok-2-clause-numbered : goal.returns-in-Ok-2-clause-numbered
 returns-in-Ok-2-clause-numbered c =
-    named_numbered c.args.self.now.table.table c.request_named.new.table.table c.args.self.now.names c.entry_of.new.names c.args.key c.args.name.now c.in-Ok.field-0.number c.in-Ok.ensures.allowed
+    named_numbered c.args.self.now.table.table c.request_named.new.table.table c.args.self.now.names c.entry_of.new.names c.args.totals.now c.args.key c.args.name.now c.in-Ok.field-0.number c.in-Ok.ensures.allowed
     (known c).0 (known c).1 c.requires.sound.numbered c.is_at_rest.ensures.laws c.request_named.result c.request_named.ensures
 
 -- ---- the name gets no number
 
 pub returns-in-Err-clause-requested : goal.returns-in-Err-clause-requested
 returns-in-Err-clause-requested c = (
-  number_refused c.args.self.now.table.table c.args.self.now.names c.args.key c.args.name.now c.in-Err.refusal c.refused_first.result c.in-Err.ensures.refused
+  number_refused c.args.self.now.table.table c.args.self.now.names c.args.totals.now c.args.key c.args.name.now c.in-Err.refusal c.refused_first.result c.in-Err.ensures.refused
       (subst (λ t. Err c.refused_first.result ≡ first_refusal (may_ask_more t c.args.key) (Err c.in-Err.refusal)) c.table.ensures c.refused_first.ensures),
   refl,
   c.in-Err.ensures.same,

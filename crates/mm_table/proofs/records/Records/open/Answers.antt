@@ -11,7 +11,7 @@ use Rattle.mm_table.proofs.records.Records.open.Goals as goal
 pub invariant_of-result : goal.invariant_of-result
 invariant_of-result c = record {
   sizes = record {
-    config = search rules;
+    config = c.requires;
     slots = ap (λ (t : Transactions). length t.live) c.in-Ok.ensures ∙ length-replicate c.args.config.processes _;
     last_generation = ap (λ (t : Transactions). t.generation_limit) c.in-Ok.ensures;
     queues = ap (λ (t : Transactions). t.resources) c.in-Ok.ensures;
@@ -22,8 +22,6 @@ invariant_of-result c = record {
   arrivals = omega (arith, ap (λ (t : Transactions). t.latest) c.in-Ok.ensures);
 }
 
-pub returns : goal.returns
-returns c = (
-  search rules,
-  opened c.args.config c.in-Ok.transactions c.in-Ok-open.labels (owners_of c.in-Ok-new.owned) c.in-Ok.ensures c.in-Ok-open.ensures (ap owners_of c.in-Ok-new.ensures ∙ no_owners c.args.config.resources),
-)
+pub returns-clause-opened : goal.returns-clause-opened
+returns-clause-opened c =
+    opened c.args.config c.in-Ok.transactions c.in-Ok-open.labels (owners_of c.in-Ok-new.owned) c.in-Ok.ensures c.in-Ok-open.ensures (ap owners_of c.in-Ok-new.ensures ∙ no_owners c.args.config.resources)

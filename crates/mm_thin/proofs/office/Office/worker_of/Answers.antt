@@ -1,4 +1,5 @@
 use Rattle.std.proofs.Common.{◌+◌, sym, ap, ◌∙◌, arith}
+use Rattle.mm_thin.specs.declared.worker.TheConstants.{PLACES}
 use Rattle.mm_thin.specs.declared.views.DeskView.{DeskView}
 use Rattle.mm_thin.specs.Views.{with_records}
 use Rattle.mm_thin.specs.Parts.{OfficeState}
@@ -16,12 +17,12 @@ returns c =
     record {
       of = c.requires.of;
       at = ap (λ (o : OfficeState). o.workers) old;
-      eight = new_length c.add_record-2.new.self 8 ps made;
-      idle = new_idle c.add_record-2.new.self 8 ps made;
+      full = new_length c.add_record-2.new.self PLACES ps made;
+      idle = new_idle c.add_record-2.new.self PLACES ps made;
       office = (
         ap (λ (o : OfficeState). o.of) old,
-        ap (λ (d : DeskView). d.fat) (desk ∙ (λ i. with_records (second i) (c.add_record-2.new.self.1.records + 8))) ∙ ap (λ (d : DeskView). d.fat) first ∙ ap (λ (o : OfficeState). o.desk.fat) old,
-        ap (λ (d : DeskView). d.lent) (desk ∙ (λ i. with_records (second i) (c.add_record-2.new.self.1.records + 8))) ∙ ap (λ (d : DeskView). d.lent) first ∙ ap (λ (o : OfficeState). o.desk.lent) old,
+        ap (λ (d : DeskView). d.fat) (desk ∙ (λ i. with_records (second i) (c.add_record-2.new.self.1.records + PLACES))) ∙ ap (λ (d : DeskView). d.fat) first ∙ ap (λ (o : OfficeState). o.desk.fat) old,
+        ap (λ (d : DeskView). d.lent) (desk ∙ (λ i. with_records (second i) (c.add_record-2.new.self.1.records + PLACES))) ∙ ap (λ (d : DeskView). d.lent) first ∙ ap (λ (o : OfficeState). o.desk.lent) old,
       );
       more = (ap (λ (o : OfficeState). o.workers + 1) old, ap (λ (o : OfficeState). o.max_workers) old);
     }

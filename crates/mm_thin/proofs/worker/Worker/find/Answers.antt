@@ -9,7 +9,7 @@ pub loop-k-preserved : goal.loop-k-preserved
 loop-k-preserved c =
     let known = ap (λ (w : WorkerState). w.records) c.self.view_is in
     let low = c.loop-k-test.true in
-    let eight = c.self.invariant.eight in
+    let full = c.self.invariant.full in
     let within = c.self.invariant.within in
     let not_here : IsFor c.index.result.now.1 c.args.name.now → ⊥ = λ so. (let never = c.is_for.ensures.1 so in let no = c.if-is_for.false in absurd (grind (arith))) in
     subst (λ (rs : List RecordView). (j : ℕ) (r : RecordView) → j < c.loop-k.k + 1 → slice_get rs j ≡ Some r → IsFor r c.args.name.now → ⊥) known
