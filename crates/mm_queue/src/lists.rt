@@ -36,6 +36,17 @@ impl Lists {
     /// `Err` only if that memory is refused.
     pub fn new(alloc: Global, lists: u32, processes: u32) -> Result<Lists, Memory>
         requires some_lists { 1 ≤ lists }
+        requires lists_in_range { lists ≤ MAX_CAPACITY }
+        requires some_processes { 1 ≤ processes }
+        requires processes_in_range { processes ≤ MAX_CAPACITY }
+        ensures { IfOk result (λ made. made ≡ empty_queues lists processes) }
+    {
+        Lists::new_wide(alloc, lists, processes)
+    }
+
+    /// `new` for any number of lists, such as one for each name of a manager.
+    pub fn new_wide(alloc: Global, lists: u32, processes: u32) -> Result<Lists, Memory>
+        requires some_lists { 1 ≤ lists }
         requires some_processes { 1 ≤ processes }
         requires processes_in_range { processes ≤ MAX_CAPACITY }
         ensures { IfOk result (λ made. made ≡ empty_queues lists processes) }

@@ -1,5 +1,5 @@
 -- What contracts see of a table, and how its parts are read. A list by process has the process's number as position; one by resource, that of the resource.
-use Rattle.std.specs.Prelude.{ℕ, ◌≤◌, ◌<◌, ◌^◌, ◌≡◌, Bool, false, ◌&&◌, List, [], length, replicate, Option, None, map, filter, find, option_map, option_and_then, is_some, nat_eq, slice_index, slice_index_or}
+use Rattle.std.specs.Prelude.{ℕ, ◌≤◌, ◌<◌, ◌^◌, ◌≡◌, Bool, false, ◌&&◌, List, [], length, replicate, Option, None, map, filter, find, option_map, option_and_then, is_some, nat_eq, if◌then◌else◌, slice_index, slice_index_or}
 use Rattle.std.specs.List.{range_with_len}
 use Rattle.std.specs.Option.{option_map_or}
 use Rattle.mm_label.specs.Label.{Label, opening_label, word_of}
@@ -93,6 +93,10 @@ owns s n r = option_map_or (λ k. nat_eq k.process n) (owner_of s r) false
 -- the resources of process n, rising
 abbrev pub resources_of : TableState → ℕ → List ℕ
 resources_of s n = filter (owns s n) (range_with_len 0 s.config.resources)
+
+-- how many the key owns; none if it is not live
+abbrev pub owned_count : TableState → Key → ℕ
+owned_count s k = if is_live s k then length (resources_of s k.process) else 0
 
 abbrev pub is_of : ℕ → Wait → Bool
 is_of n w = nat_eq w.key.process n

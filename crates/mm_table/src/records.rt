@@ -9,7 +9,7 @@
 //! - `sweep`, `waiters`: the sweeps of a settle, and who is looked at next after a raise.
 use crate::labels::Labels;
 use crate::{Config, Totals};
-use mm_tagged_lists::TaggedLists;
+use mm_tagged_lists::CountedLists;
 use mm_transactions::Transactions;
 use std::marker::Model;
 
@@ -41,7 +41,7 @@ pub struct Records {
     transactions: Transactions,
     labels: Labels,
     /// The resources of each process. The list of a process has its number, and the tag is the generation of the key that owns the resource.
-    owned: TaggedLists,
+    owned: CountedLists,
     totals: Totals,
 }
 

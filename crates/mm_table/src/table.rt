@@ -1,8 +1,8 @@
-ghost use Rattle.std.specs.Prelude.{◌≡◌, ◌≢◌, ◌≤◌, ◌<◌, ◌^◌, ◌↔◌, ◌||◌, ℕ, Ok, Some, false, IsTrue, length, replicate, IfOk, IfErr, IfSome, IfNone, None, OnOk, vec_capacity};
+ghost use Rattle.std.specs.Prelude.{◌≡◌, ◌≢◌, ◌≤◌, ◌<◌, ◌^◌, ◌↔◌, ◌||◌, ℕ, Ok, Some, false, IsTrue, length, replicate, IfOk, IfErr, IfSome, IfNone, MatchOption, None, OnOk, vec_capacity};
 ghost use Rattle.mm_lists.specs.Members.{Among, NoRepeat};
 ghost use Rattle.mm_bit_set.specs.BitSet.{has, members};
 ghost use Rattle.mm_rules.specs.Adopt.{Adopts};
-ghost use Rattle.mm_rules.specs.TableState.{IsWide, is_live, has_verdict, opening, owner_of, public_of, holder_of, wait_of};
+ghost use Rattle.mm_rules.specs.TableState.{IsWide, is_live, owned_count, has_verdict, opening, owner_of, public_of, holder_of, wait_of};
 ghost use Rattle.mm_rules.specs.Change.{take_back};
 ghost use Rattle.mm_rules.specs.Event.{Opens, OpensWide, Step, Begin, Acquire, Release, Finish, Transmit, Detect, Abort, GiveUp, Settle, allowed, resource_tests, state_of, owner_told, tenant_of};
 ghost use Rattle.mm_rules.specs.declared.reply.Acquired.TheVariants as Acquired;
@@ -382,6 +382,26 @@ impl Table {
         ensures room { vec_capacity resources.new ≡ vec_capacity resources.old }
     {
         self.records.owned_by(key, resources);
+    }
+
+    /// Returns how many resources the key owns: none if it is not live.
+    ///
+    /// Changes nothing and is not counted. Constant time.
+    #[inline]
+    pub fn owned_len(&self, key: Key) -> u32
+        ensures { result ≡ owned_count self.now key }
+    {
+        self.records.owned_len(key)
+    }
+
+    /// Returns one of the resources that the key owns, whichever it is; `None` if it owns none, or is not live.
+    ///
+    /// Changes nothing and is not counted. Constant time.
+    #[inline]
+    pub fn any_owned(&self, key: Key) -> Option<u32>
+        ensures { MatchOption result ((r : ℕ) → ¬ (owner_of self.now r ≡ Some key)) (λ r. owner_of self.now r ≡ Some key) }
+    {
+        self.records.any_owned(key)
     }
 
     /// Returns the live key of the process; `None` if it has none, or is not one of the table's.

@@ -14,3 +14,5 @@ pub mod Items
 pub mod Path
 -- the fields after all items of a list are freed
 pub mod FreedAll
+-- how many items each list has
+pub mod Counted

@@ -1,3 +1,4 @@
+pub mod Counted
 pub mod Kept
 pub mod Linked
 pub mod Path

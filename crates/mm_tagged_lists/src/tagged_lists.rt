@@ -2,6 +2,7 @@
 ghost use Rattle.std.specs.Prelude.{◌≡◌, ◌≤◌, ◌<◌, ℕ, List, length, fold, vec_capacity, IfOk, IfSome, IsNone, None};
 ghost use Rattle.std.specs.Option.{ForSome};
 ghost use Rattle.mm_lists.specs.Members.{head, NoRepeat};
+ghost use Rattle.mm_links.specs.Link.{none_number};
 ghost use Rattle.mm_links.specs.Links.{with_before, with_next};
 ghost use Rattle.mm_links.specs.Chain.{first_with_next};
 ghost use Rattle.mm_tagged_lists.specs.TaggedLists.{unlisted, spot_at, list_at, given, freed, FollowsInList, ListsMatchSpots};
@@ -176,6 +177,15 @@ impl TaggedLists {
             next,
         );
         set_before(&mut self.items, next, before);
+    }
+
+    /// Does nothing. Its contract is what holds of any lists that a caller can hold.
+    #[inline(always)]
+    pub fn keeps_laws(&self)
+        ensures matched { ListsMatchSpots self.now }
+        ensures few { length self.now.spots ≤ none_number }
+    {
+        let _ = &self.firsts;
     }
 }
 

@@ -69,7 +69,7 @@ impl Transactions {
         Ok(Transactions {
             slots: Arena::new(alloc, processes, generation_limit)?,
             arrivals: no_arrivals(alloc, processes)?,
-            queues: Lists::new(alloc, resources, processes)?,
+            queues: Lists::new_wide(alloc, resources, processes)?,
             latest: 0,
             waiting: 0,
         })

@@ -1,5 +1,5 @@
 -- A list that is cut at one of its members, or at a place.
-use Rattle.std.proofs.Common.{◌≡◌, ◌⊎◌, ℕ, zero, suc, not, eqb, List, [], ◌∷◌, ◌++◌, Some, None, take, drop, slice_get, refl, sym, ap, subst, ◌∙◌, inl, inr}
+use Rattle.std.proofs.Common.{◌≡◌, ◌⊎◌, ℕ, ◌≤◌, zero, suc, length, not, eqb, List, [], ◌∷◌, ◌++◌, Some, None, take, drop, slice_get, refl, sym, ap, subst, ◌∙◌, inl, inr, arith, length-append}
 use Rattle.std.proofs.lemmas.Bool.{eq-eqb}
 use Rattle.std.proofs.lemmas.List.Elements.{filter-append}
 use Rattle.mm_lists.specs.Members.{Among, NoRepeat, without}
@@ -85,3 +85,20 @@ no_repeat_around r (q ∷ before) after once =
         | inr later ↦ rest.1 later
       ],
     )
+
+-- ---- how long a list is whose members stand in another one
+
+pub no_longer : (xs ys : List ℕ) → NoRepeat xs → ((x : ℕ) → Among x xs → Among x ys) → length xs ≤ length ys
+no_longer [] ys once within = omega arith
+no_longer (x ∷ xs) ys once within =
+    let cut = cut_at x ys (within x (inl refl)) in
+    let rest : length xs ≤ length (cut.earlier ++ cut.later) = no_longer xs (cut.earlier ++ cut.later) once.1
+    (λ y later. elim (among_around_gives y x cut.earlier cut.later (subst (Among y) cut.whole (within y (inr later)))) [
+      | inl same ↦ absurd (once.0 (subst (λ z. Among z xs) same later))
+      | inr other ↦ other
+    ]) in
+    omega (arith, rest, ap length cut.whole, length-append cut.earlier cut.later, length-append cut.earlier (x ∷ cut.later))
+
+-- lists with the same members, each once, are as long
+pub same_length : (xs ys : List ℕ) → NoRepeat xs → NoRepeat ys → ((x : ℕ) → Among x xs → Among x ys) → ((x : ℕ) → Among x ys → Among x xs) → length xs ≡ length ys
+same_length xs ys once once_too within within_too = omega (arith, no_longer xs ys once within, no_longer ys xs once_too within_too)

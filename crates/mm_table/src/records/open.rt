@@ -5,7 +5,7 @@ ghost use Rattle.mm_rules.specs.TableState.{IsWide, opening};
 use super::Records;
 use crate::labels::Labels;
 use crate::{Config, Refusal, Totals};
-use mm_tagged_lists::TaggedLists;
+use mm_tagged_lists::CountedLists;
 use mm_transactions::Transactions;
 use std::alloc::Global;
 
@@ -27,7 +27,7 @@ impl Records {
         let Ok(labels) = Labels::open(alloc, config.processes) else {
             return Err(Refusal::Memory);
         };
-        let Ok(owned) = TaggedLists::new(alloc, config.processes, config.resources) else {
+        let Ok(owned) = CountedLists::new(alloc, config.processes, config.resources) else {
             return Err(Refusal::Memory);
         };
         Ok(Records {

@@ -1,7 +1,7 @@
 //! Reads, which change nothing: those that a caller makes, and those that events are made of.
-ghost use Rattle.std.specs.Prelude.{◌≡◌, ◌≤◌, ◌<◌, ◌↔◌, ℕ, IsTrue, IfSome, IfNone, None, Some, option_map, vec_capacity};
+ghost use Rattle.std.specs.Prelude.{◌≡◌, ◌≤◌, ◌<◌, ◌↔◌, ℕ, IsTrue, IfSome, IfNone, MatchOption, None, Some, option_map, length, vec_capacity};
 ghost use Rattle.mm_lists.specs.Members.{Among, NoRepeat};
-ghost use Rattle.mm_rules.specs.TableState.{wait_of, holder_of, is_live, has_verdict, public_of, owner_of, owns};
+ghost use Rattle.mm_rules.specs.TableState.{wait_of, holder_of, is_live, has_verdict, public_of, owner_of, owns, owned_count, resources_of};
 ghost use Rattle.mm_rules.specs.Laws.{Laws};
 ghost use Rattle.mm_rules.specs.Event.{state_of, owner_told, tenant_of};
 
@@ -89,6 +89,49 @@ impl Records {
         ensures room { vec_capacity resources.new ≡ vec_capacity resources.old }
     {
         self.owned.list(key.process, resources);
+    }
+
+    /// Returns how many resources the key owns: none if it is not live. Constant time.
+    #[inline]
+    pub fn owned_len(&self, key: Key) -> u32
+        ensures { result ≡ owned_count self.now key }
+    {
+        if !self.is_live(key) {
+            return 0;
+        }
+        self.owned_len_live(key)
+    }
+
+    /// `owned_len` of a live key.
+    #[inline]
+    fn owned_len_live(&self, key: Key) -> u32
+        requires { IsTrue (is_live self.now key) }
+        ensures { result ≡ length (resources_of self.now key.process) }
+    {
+        self.owned.first(key.process);
+        self.owned.len(key.process)
+    }
+
+    /// Returns one of the resources that the key owns; `None` if it owns none, or is not live. Constant time.
+    #[inline]
+    pub fn any_owned(&self, key: Key) -> Option<u32>
+        requires { Laws self.now }
+        ensures { MatchOption result ((r : ℕ) → ¬ (owner_of self.now r ≡ Some key)) (λ r. owner_of self.now r ≡ Some key) }
+    {
+        if !self.is_live(key) {
+            return None;
+        }
+        self.any_owned_live(key)
+    }
+
+    /// `any_owned` of a live key.
+    #[inline]
+    fn any_owned_live(&self, key: Key) -> Option<u32>
+        requires laws { Laws self.now }
+        requires live { IsTrue (is_live self.now key) }
+        ensures { MatchOption result ((r : ℕ) → ¬ (owner_of self.now r ≡ Some key)) (λ r. owner_of self.now r ≡ Some key) }
+    {
+        self.owned.first(key.process)
     }
 
     /// Returns the numbers that the table was opened with. Constant time.

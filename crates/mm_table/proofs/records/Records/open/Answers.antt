@@ -1,4 +1,4 @@
-use Rattle.std.proofs.Common.{[], length, ap, ◌∙◌, arith, None, rules}
+use Rattle.std.proofs.Common.{[], length, ap, ◌∙◌, arith, None}
 use Rattle.std.proofs.lemmas.List.{length-replicate}
 use Rattle.std.proofs.lemmas.List.FromFn.{length-map-range_with_len}
 use Rattle.mm_tagged_lists.specs.TaggedLists.{Listing}

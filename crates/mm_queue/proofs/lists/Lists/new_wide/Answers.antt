@@ -1,7 +1,7 @@
 use Rattle.std.proofs.Common.{[], replicate, ap, ◌∙◌, arith}
 use Rattle.mm_queue.specs.private.Linked.{ends_of}
 use Rattle.mm_queue.proofs.Lemmas.Entries.{shown_empty}
-use Rattle.mm_queue.proofs.lists.Lists.new.Goals as goal
+use Rattle.mm_queue.proofs.lists.Lists.new_wide.Goals as goal
 
 pub invariant_of-result : goal.invariant_of-result
 invariant_of-result c =
