@@ -17,7 +17,7 @@
  *   3. Pointers are valid and not NULL, and what a call writes does not overlap what it reads. With length 0 a name is not read.
  *   4. No call in a signal handler, and none in the child of a fork for a manager of its parent (the child would exclude nobody).
  *
- * Memory. pashkure_open takes all of it, from malloc: at most (name_bytes + 71) * names + 81 * transactions + 1,000 bytes. pashkure_close
+ * Memory. pashkure_open takes all of it, from malloc: at most (name_bytes + 71) * names + 85 * transactions + 1,000 bytes. pashkure_close
  * gives all of it back, by free. No other call takes memory, so none fails for want of it.
  *
  * Time. Each call takes constant time, but: a name is hashed and compared; an end hands on each name that the transaction owns; a request
@@ -45,7 +45,7 @@
 extern "C" {
 #endif
 
-/* ---- Results. The numbers do not change; 5, 6, 8 and 17 stay free. From PASHKURE_REFUSED on, the call has changed nothing. ---- */
+/* ---- Results. The numbers do not change; 5, 6, 8, 17 and 38 stay free. From PASHKURE_REFUSED on, the call has changed nothing. ---- */
 typedef enum pashkure_result {
     PASHKURE_OK = 0,           /* done. Of a request: the transaction owns the name from now on */
     PASHKURE_HELD = 1,         /* the transaction owned the name before; it is still owned once */
@@ -68,15 +68,15 @@ typedef enum pashkure_result {
     PASHKURE_NAMES_FULL = 24,        /* config.names are owned, and this is a further one. Ends make room; PASHKURE_WAITS is never refused so */
     PASHKURE_LABELS_FULL = 25,       /* 8,796,093,022,207 answers WAITS or DEADLOCK: nobody may ask for what another one owns. End all, close, open */
     PASHKURE_COUNTS_FULL = 26,       /* 4,611,686,018,360,279,040 events: only ends are taken. End all, close, open */
+    PASHKURE_TOO_MANY_NAMES = 28,    /* the transaction owns config.names_each, and this is a further one. Unlocks make room */
     PASHKURE_NOT_OPEN = 32,          /* the manager is closed */
     PASHKURE_IN_USE = 33,            /* pashkure_open of an open one; pashkure_locks_close while a transaction is live */
     PASHKURE_BAD_VERSION = 34,       /* the library does not serve config.header, or it is 0: the config did not begin as PASHKURE_CONFIG */
     PASHKURE_BAD_TRANSACTIONS = 35,  /* out of the range beside the member; so the next two */
     PASHKURE_BAD_NAMES = 36,
     PASHKURE_BAD_NAME_BYTES = 37,
-    PASHKURE_BAD_RESERVED = 38, /* config.reserved is not 0 */
     PASHKURE_NO_MEMORY = 39,
-    PASHKURE_BAD_BUCKETS = 40,
+    PASHKURE_BAD_BUCKETS = 40, /* also of pashkure_open, if it is not 0 */
     /* 64 to 95 are for the client of the lock service, whose other results have the numbers above. */
     PASHKURE_RESULT_BITS_ = 0x7fffffff /* no result: gives the enum 32 bits with each compiler */
 } pashkure_result;
@@ -102,7 +102,7 @@ typedef struct pashkure_config {
     uint32_t name_bytes;   /* how many bytes a name may have: 1 to 1,024. Any bytes; a name of numbers is as good as text */
     uint64_t seed;         /* of the hash of names: any number that those who choose names do not know, as of getrandom */
     uint32_t buckets;      /* of pashkure_locks_open; else 0 */
-    uint32_t reserved;     /* 0 */
+    uint32_t names_each;   /* how many one transaction may own, so that it does not own those of all others; 0: as many as there are */
 } pashkure_config;
 #define PASHKURE_CONFIG                                                                                                                              \
     {                                                                                                                                                \
@@ -157,7 +157,8 @@ pashkure_result pashkure_begin(pashkure *locks, pashkure_key *key) PASHKURE_CHEC
 
 /* Asks for a name: OK, HELD, WAITS, or DEADLOCK exactly if the wait would close a cycle of waits. Those that wait for one name are given it
  * in the order in which they asked. After OK (and not HELD) note the name, if you have savepoints: to roll back to one is to unlock what was
- * noted since. NO_TRANSACTION, WAITING, COUNTS_FULL, NAME_EMPTY, NAME_TOO_LONG, NAMES_FULL, LABELS_FULL.
+ * noted since. NO_TRANSACTION, WAITING, COUNTS_FULL, NAME_EMPTY, NAME_TOO_LONG, TOO_MANY_NAMES, NAMES_FULL,
+ * LABELS_FULL.
  *
  * Right after DEADLOCK the waits of the cycle stand, from the owner of the name to this transaction, and this gives them:
  *     pashkure_key at;

@@ -22,6 +22,7 @@ const char *pashkure_message(pashkure_result result)
     case PASHKURE_TRANSACTIONS_FULL: return "there are as many transactions as there can be";
     case PASHKURE_NAMES_FULL: return "as many names are owned as can be";
     case PASHKURE_LABELS_FULL: return "nobody can begin to wait any more: the manager has to be opened anew";
+    case PASHKURE_TOO_MANY_NAMES: return "the transaction owns as many names as one may (names_each of the configuration)";
     case PASHKURE_COUNTS_FULL: return "as many events were counted as can be: the manager has to be opened anew";
     case PASHKURE_NOT_OPEN: return "the manager is closed";
     case PASHKURE_IN_USE: return "the manager is in use";
@@ -29,7 +30,6 @@ const char *pashkure_message(pashkure_result result)
     case PASHKURE_BAD_TRANSACTIONS: return "transactions is out of range";
     case PASHKURE_BAD_NAMES: return "names is out of range";
     case PASHKURE_BAD_NAME_BYTES: return "name_bytes is out of range";
-    case PASHKURE_BAD_RESERVED: return "reserved, or buckets of a pashkure, is not 0";
     case PASHKURE_NO_MEMORY: return "there is not enough memory";
     case PASHKURE_BAD_BUCKETS: return "buckets is out of range";
     case PASHKURE_RESULT_BITS_: break;

@@ -16,7 +16,8 @@
  *   1,600 are first touched by a deadlock. No other call takes any. A name of more than 63 bytes, a name of a transaction after its sixteenth, and
  *   two names of one bucket are the manager's. Of names that are not, config.buckets bounds how many can be owned at a time; of those that are,
  *   config.names. NAMES_FULL says that the manager has no room for the name that was asked for, or for one that another transaction owns and that
- *   had to come to the manager.
+ *   had to come to the manager. config.names_each bounds how many names of the manager a transaction may own when it asks for one more, and
+ *   TOO_MANY_NAMES says that it does. Those of its first sixteen that the manager does not know of are not counted: so it may own sixteen more.
  *
  *   DEADLOCKS. A request whose wait would close a cycle of waits is answered DEADLOCK at once, and no other one of the cycle is told. The transaction
  *   does not wait, and goes on with what it owns. Give back what others wait for: undo the work and call pashkure_locks_abort, or undo what came

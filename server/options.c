@@ -20,6 +20,7 @@ static const char usage[] = "usage: pashkure-serve --socket PATH [OPTION..]\n"
                             "  --transactions N    how many transactions can be live at once\n"
                             "  --names N           how many names can be owned at once\n"
                             "  --name-bytes N      how many bytes a name may have\n"
+                            "  --names-each N      how many names a transaction may own (as many as there are if missing)\n"
                             "  --each N            how many transactions a client can have at once\n"
                             "  --connections N     how many clients can be connected at once (16384 if missing)\n"
                             "  --unread BYTES      what a client may leave unread before it is hung up\n"
@@ -58,6 +59,7 @@ static const struct number_option numbers[] = {
     {"transactions", offsetof(struct options, transactions), 1, 65536},
     {"names", offsetof(struct options, names), 1, 16777216},
     {"name-bytes", offsetof(struct options, name_bytes), 1, 1024},
+    {"names-each", offsetof(struct options, names_each), 0, 16777216},
     {"each", offsetof(struct options, each), 1, 65536},
     {"connections", offsetof(struct options, connections), 1, 65535},
     {"epoch", offsetof(struct options, epoch), 1, INT64_MAX},

@@ -10,7 +10,7 @@
 
 struct options {
     const char *socket, *admin, *program, *group, *epoch_file, *mode_text; /* NULL: not given */
-    uint64_t transactions, names, name_bytes, each, connections, epoch, unread, unread_total, turn, heartbeat_fd, heartbeat_ms;
+    uint64_t transactions, names, name_bytes, names_each, each, connections, epoch, unread, unread_total, turn, heartbeat_fd, heartbeat_ms;
     uint64_t given; /* a bit for each number that was given, by its place in the table of options.c */
     mode_t mode;
     gid_t group_id; /* (gid_t)-1: that of the user */

@@ -46,6 +46,8 @@ static void makes_command(struct command *command, const struct options *options
         adds(command, "--names", options->names);
     if (IS_GIVEN(options, name_bytes))
         adds(command, "--name-bytes", options->name_bytes);
+    if (IS_GIVEN(options, names_each))
+        adds(command, "--names-each", options->names_each);
     adds(command, "--connections", connections);
     adds(command, "--epoch", epoch);
     if (IS_GIVEN(options, each))

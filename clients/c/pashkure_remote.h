@@ -51,6 +51,7 @@ typedef enum pashkure_remote_result {
     PASHKURE_REMOTE_NAMES_FULL = 24,        /* as many names are owned as can be */
     PASHKURE_REMOTE_LABELS_FULL = 25,       /* nobody may begin to wait any more: the service has to be started anew */
     PASHKURE_REMOTE_COUNTS_FULL = 26,       /* only ends are taken: the service has to be started anew */
+    PASHKURE_REMOTE_TOO_MANY_NAMES = 28,    /* the transaction owns as many as one may (--names-each) */
     PASHKURE_REMOTE_NOT_OPEN = 32,          /* the connection is closed */
     PASHKURE_REMOTE_IN_USE = 33,            /* of open: the connection is open */
 

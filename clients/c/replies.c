@@ -22,6 +22,7 @@ static const struct {
     {PASHKURE_REMOTE_NOT_OWNER, "the transaction does not own the name", "not-owner"},
     {PASHKURE_REMOTE_TRANSACTIONS_FULL, "there are as many transactions as there can be", "transactions-full"},
     {PASHKURE_REMOTE_NAMES_FULL, "as many names are owned as can be", "names-full"},
+    {PASHKURE_REMOTE_TOO_MANY_NAMES, "the transaction owns as many names as one may (--names-each of the service)", "too-many-names"},
     {PASHKURE_REMOTE_LABELS_FULL, "the service can let nobody wait any more", "labels-full"},
     {PASHKURE_REMOTE_COUNTS_FULL, "the service has counted as many events as it can", "counts-full"},
     {PASHKURE_REMOTE_NOT_OPEN, "the connection is closed", NULL},

@@ -126,15 +126,15 @@ static void tell(Manager *manager)
 
 static PyObject *manager_new(PyTypeObject *type, PyObject *words, PyObject *named)
 {
-    static char *names[] = {"transactions", "names", "name_bytes", "seed", NULL};
+    static char *names[] = {"transactions", "names", "name_bytes", "names_each", "seed", NULL};
     pashkure_config config = PASHKURE_CONFIG;
-    unsigned transactions, count, name_bytes;
+    unsigned transactions, count, name_bytes, names_each;
     unsigned long long seed;
     pashkure_result result;
     Manager *manager;
-    if (!PyArg_ParseTupleAndKeywords(words, named, "IIIK", names, &transactions, &count, &name_bytes, &seed))
+    if (!PyArg_ParseTupleAndKeywords(words, named, "IIIIK", names, &transactions, &count, &name_bytes, &names_each, &seed))
         return NULL;
-    config.transactions = transactions, config.names = count, config.name_bytes = name_bytes, config.seed = seed;
+    config.transactions = transactions, config.names = count, config.name_bytes = name_bytes, config.names_each = names_each, config.seed = seed;
     manager = (Manager *)type->tp_alloc(type, 0);
     if (manager == NULL)
         return NULL;

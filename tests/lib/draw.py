@@ -125,8 +125,10 @@ class Requests:
     def __init__(self, chance: random.Random, size: Optional[tuple[int, int, int]] = None) -> None:
         self.chance = chance
         self.size = size or chance.choice(SIZES)
-        self.model = Service(*self.size)
+        self.names_each = chance.choice([0, 0, 0, 1, 2, 5])
+        self.model = Service(*self.size, names_each=self.names_each)
         self.head = b"# --transactions %d --names %d --name-bytes %d" % self.size
+        self.head += b" --names-each %d" % self.names_each if self.names_each else b""
         self.ended = [b"0.1"]  # keys that were given
 
     def draw(self, count: int) -> bytes:
@@ -181,7 +183,7 @@ class Connections(Requests):
     def __init__(self, chance: random.Random) -> None:
         super().__init__(chance)
         each, epoch = chance.choice([None, 1, 3, 9]), chance.choice([None, 1, 7, 2**63 - 1])
-        self.hub = Hub(CONNECTIONS, each, epoch, transactions=self.size[0], names=self.size[1], name_bytes=self.size[2])
+        self.hub = Hub(CONNECTIONS, each, epoch, transactions=self.size[0], names=self.size[1], name_bytes=self.size[2], names_each=self.names_each)
         self.model = self.hub.service
         self.head += b"".join(b" --%b %d" % (word, number) for word, number in ((b"each", each), (b"epoch", epoch)) if number)
 

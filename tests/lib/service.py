@@ -16,9 +16,9 @@ PART = 1024
 """Names of a transaction that a reply tells. If there are more, two dots follow."""
 LONGEST_PATH = 16
 """Waits of a cycle that a line tells."""
-LIMITS = {"transactions": 65_536, "names": 65_536, "name_bytes": 64}
-GREATEST = {"transactions": 65_536, "names": 16_777_216, "name-bytes": 1_024, "each": 65_536, "epoch": 2**63 - 1}
-"""The greatest number that each option may have. The least is 1."""
+LIMITS = {"transactions": 65_536, "names": 65_536, "name_bytes": 64, "names_each": 0}
+GREATEST = {"transactions": 65_536, "names": 16_777_216, "name-bytes": 1_024, "names-each": 16_777_216, "each": 65_536, "epoch": 2**63 - 1}
+"""The greatest number that each option may have. The least is 1; `names-each` may be 0, for as many as there are."""
 
 
 class Refused(Exception):
@@ -69,8 +69,9 @@ class Names(Table):
 class Service:
     """The state of a service, and its requests. Each returns its reply, and `caused` has the lines behind it."""
 
-    def __init__(self, transactions: int = LIMITS["transactions"], names: int = LIMITS["names"], name_bytes: int = LIMITS["name_bytes"]) -> None:
-        self.names_limit, self.name_bytes = names, name_bytes
+    def __init__(self, transactions: int = LIMITS["transactions"], names: int = LIMITS["names"], name_bytes: int = LIMITS["name_bytes"],
+                 names_each: int = LIMITS["names_each"]) -> None:  # fmt: skip
+        self.names_limit, self.name_bytes, self.names_each = names, name_bytes, names_each
         self.table = Names(transactions, names, 2**43, LARGEST)
         self.keys: dict[bytes, int] = {}  # of live transactions: their processes
         self.names: dict[int, list[bytes]] = {}  # by process: what it owns, in the order of the grants
@@ -122,8 +123,12 @@ class Service:
     def take(self, process: int, name: bytes) -> Optional[bytes]:
         """Gives the name to the transaction if nobody owns it. None if another one does."""
         owner = self.table.owner.get(name)
+        if owner == process:
+            return b"held"
+        if self.names_each and len(self.names[process]) >= self.names_each:
+            raise Refused("too-many-names")
         if owner is not None:
-            return b"held" if owner == process else None
+            return None
         if len(self.table.owner) >= self.names_limit:
             raise Refused("names-full")
         self.table.owner[name] = process
@@ -134,11 +139,15 @@ class Service:
 
     def hand_over(self, process: int, names: list[bytes]) -> None:
         """Gives each name to its longest waiter."""
-        owned = [name for name in reversed(self.names[process]) if name in names]
+        mine, given = self.names[process], {*names}
+        owned = names if len(names) == 1 else [name for name in reversed(mine) if name in given]
         if any(self.table.queue.get(name) for name in owned):
             owned.sort(key=self.numbers.__getitem__)
         for name in owned:
-            self.names[process].remove(name)
+            if mine[-1] == name:
+                mine.pop()
+            else:
+                mine.remove(name)
             heir = self.table.hand_over(name)
             if heir is not None:
                 self.names[heir].append(name)

@@ -157,8 +157,8 @@ TEST(refused_open)
         {{is, 1, 16777217, 1, 0, 0, 0}, PASHKURE_BAD_NAMES},
         {{is, 1, 1, 0, 0, 0, 1}, PASHKURE_BAD_NAME_BYTES},
         {{is, 1, 1, 1025, 0, 0, 0}, PASHKURE_BAD_NAME_BYTES},
-        {{is, 1, 1, 1, 0, 0, 1}, PASHKURE_BAD_RESERVED},
-        {{is, 1, 1, 1, 0, 1, 0}, PASHKURE_BAD_RESERVED},
+        {{is, 1, 1, 1, 0, 0, UINT32_MAX}, PASHKURE_OK},
+        {{is, 1, 1, 1, 0, 1, 1}, PASHKURE_BAD_BUCKETS},
         {{0, 0, 0, 0, 0, 0, 0}, PASHKURE_BAD_VERSION},
     };
     pashkure locks = PASHKURE_CLOSED, was;
@@ -407,6 +407,31 @@ TEST(many_names)
     pashkure_close(&locks);
 }
 
+/* A transaction that owns as many names as one may is refused a further one, also one that another one owns. Its neighbour goes on. */
+TEST(names_each)
+{
+    pashkure locks = PASHKURE_CLOSED;
+    pashkure_config config = PASHKURE_CONFIG;
+    pashkure_key a, b;
+    config.names_each = 2;
+    GIVES(pashkure_open(&locks, &config), PASHKURE_OK);
+    a = begun(&locks), b = begun(&locks);
+    GIVES(locks_name(&locks, b, "x"), PASHKURE_OK);
+    GIVES(locks_name(&locks, a, "1"), PASHKURE_OK);
+    GIVES(pashkure_try_lock(&locks, a, "2", 1), PASHKURE_OK);
+    GIVES(locks_name(&locks, a, "3"), PASHKURE_TOO_MANY_NAMES);
+    GIVES(pashkure_try_lock(&locks, a, "3", 1), PASHKURE_TOO_MANY_NAMES);
+    GIVES(locks_name(&locks, a, "x"), PASHKURE_TOO_MANY_NAMES);
+    GIVES(locks_name(&locks, a, ""), PASHKURE_NAME_EMPTY);
+    GIVES(locks_name(&locks, a, "2"), PASHKURE_HELD);
+    GIVES(locks_name(&locks, b, "3"), PASHKURE_OK);
+    GIVES(pashkure_unlock(&locks, a, "1", 1), PASHKURE_OK);
+    GIVES(locks_name(&locks, a, "x"), PASHKURE_WAITS);
+    GIVES(pashkure_commit(&locks, b), PASHKURE_OK);
+    GIVES(locks_name(&locks, a, "3"), PASHKURE_TOO_MANY_NAMES);
+    pashkure_close(&locks);
+}
+
 TEST(moved_and_opened_again)
 {
     pashkure locks = opened(2, 2), there = locks;
@@ -465,7 +490,7 @@ TEST(bytes_of_an_open)
         config.transactions = SIZES[i][0];
         config.names = SIZES[i][1];
         config.name_bytes = SIZES[i][2];
-        most = (config.name_bytes + 71ul) * config.names + 81ul * config.transactions + 1000;
+        most = (config.name_bytes + 71ul) * config.names + 85ul * config.transactions + 1000;
         bytes = 0;
         GIVES(pashkure_open(&locks, &config), PASHKURE_OK);
         CHECK(bytes <= most && bytes >= most - most / 50 - 200);
@@ -493,6 +518,7 @@ static const struct test TESTS[] = {
     ROW(ends_of_waiters),
     ROW(names),
     ROW(many_names),
+    ROW(names_each),
     ROW(moved_and_opened_again),
     ROW(memory),
     ROW(bytes_of_an_open),

@@ -18,12 +18,12 @@ storm --report -v|threads -v|threads -v --report a|threads --report a -v|threads
 storm --seed -v|storm --seed --clients 3|storm --clint 3|storm --hel|storm --xyz|locks --name 3|explain --merm|explain --al x
 explain --at --dot|threads a --report|threads --report a --report=b c|threads --report a|threads a --resources 8|threads a --transactions 2
 explain a b|explain --fly|explain --at|explain --at 0|explain --at x|explain --at 1 --at 2|explain --dot --dot|explain --dot=yes
-locks --names 0|locks --names 16777217|locks --transactions 0|locks --transactions 65537|locks --name-bytes 0|locks --name-bytes 1025
+locks --names 0|locks --names 16777217|locks --transactions 0|locks --transactions 65537|locks --name-bytes 0|locks --name-bytes 1025|locks --names-each 16777217
 locks --seed -1|locks --seed x|locks --names|locks extra|locks --verbose|locks --names 1 --names 2|prove""".replace("\n", "|").split("|")
 TOLD = {
     "script": ["1 to 17592186044415", " 7 LabelsExhausted ", "15 CountsExhausted ", "refused N Name"],
     "locks": ["* granted K NAME", "* aborted K", "* more C", "no-transaction", "waiting", "not-waiting", "name-too-long", "not-owner",
-              "names-full", "transactions-full", "labels-full", "counts-full", "operator", "no-epoch"],
+              "names-full", "too-many-names", "transactions-full", "labels-full", "counts-full", "operator", "no-epoch"],
 }  # fmt: skip
 
 

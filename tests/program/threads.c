@@ -244,8 +244,6 @@ TEST(memory)
     }
     is_counting = false;
     locks = (pashkure_locks *)&config;
-    config.reserved = 1;
-    GIVES(pashkure_locks_open(&locks, &config), PASHKURE_BAD_RESERVED);
     config.names = 0;
     GIVES(pashkure_locks_open(&locks, &config), PASHKURE_BAD_NAMES);
     CHECK(locks == NULL);
@@ -276,6 +274,29 @@ TEST(refusals)
     GIVES(pashkure_locks_commit(locks, a), PASHKURE_NO_TRANSACTION);
     GIVES(lock(a, "x", 0), PASHKURE_NO_TRANSACTION);
     GIVES(pashkure_locks_interrupt(locks, a), PASHKURE_NO_TRANSACTION);
+    shut();
+}
+
+/* A transaction may own its first sixteen names, of which the manager does not know, and names_each further ones. Its neighbour goes on, and once
+ * it has asked for one of the sixteen that one counts too. */
+TEST(names_each)
+{
+    pashkure_config config = PASHKURE_CONFIG;
+    char name[2] = "A";
+    config.names_each = 4;
+    GIVES(pashkure_locks_open(&locks, &config), PASHKURE_OK);
+    a = begun(), b = begun();
+    for (; name[0] < 'A' + 20; name[0]++)
+        GIVES(lock(a, name, 0), PASHKURE_OK);
+    GIVES(lock(a, "more", 0), PASHKURE_TOO_MANY_NAMES);
+    GIVES(lock(a, "A", 0), PASHKURE_HELD);
+    GIVES(lock(b, "more", 0), PASHKURE_OK);
+    GIVES(lock(b, "A", 0), PASHKURE_BUSY);
+    GIVES(pashkure_locks_unlock(locks, a, "T", 1), PASHKURE_OK);
+    GIVES(lock(a, "T", 0), PASHKURE_TOO_MANY_NAMES);
+    ends(a);
+    GIVES(lock(b, "T", 0), PASHKURE_OK);
+    ends(b);
     shut();
 }
 
@@ -850,6 +871,7 @@ TEST(many_names)
 static const struct test TESTS[] = {
     ROW(memory),
     ROW(refusals),
+    ROW(names_each),
     ROW(order_of_sleepers),
     ROW(time_out),
     ROW(deadlock),

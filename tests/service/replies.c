@@ -158,6 +158,7 @@ static void test_refusals(void)
         "names-full",
         "labels-full",
         "counts-full",
+        [28] = "too-many-names",
         [65] = "of-another-time",
         [80] = "operator",
         "no-epoch",
@@ -571,8 +572,9 @@ static void test_messages(void)
 {
     static const char *const parts[86] = {"done", "owned the name before", "waits for the name", "cycle",
         "another transaction owns", [7] = "nobody owns", "aborted while", "in time", [16] = "has ended", [18] = "the transaction waits",
-        "does not wait", [21] = "longer", "does not own", "transactions", "names", "wait", "counted", [32] = "is closed", "is open", [64] = "lost",
-        "does not understand", "no connection", "control", [80] = "operator", "epoch", [84] = "clients", "restart the service first"};
+        "does not wait", [21] = "longer", "does not own", "transactions", "names", "wait", "counted", [28] = "--names-each", [32] = "is closed",
+        "is open", [64] = "lost", "does not understand", "no connection", "control", [80] = "operator", "epoch", [84] = "clients",
+        "restart the service first"};
     int place, other;
     for (place = 0; place < 86; place++) {
         const char *message = pashkure_remote_message((pashkure_remote_result)place);

@@ -25,7 +25,7 @@ LINES = [
 LONG = [b"x" * (LONGEST + 1), b"x" * (LONGEST + 1) + b"\r", b"\r" * (LONGEST + 2), b"x" * LONGEST + b"\r\r", b"-" * 4095, b"x" * 4096, b"x" * 70_000]
 NONSENSE = ["x", "", "1", "1granted", "01 granted", "9 granted", "70000 granted", "123456 x", "- 1", "- 9", "-", "- 0", "- 1 ", " 1 x", "1 a|1 b",
             "9 * granted 0.1 a", "0 one|0 two",
-            "* more 1", "* more 9", "* more 0", "* more 1 ", "* more", "* granted 0.1 a"]  # fmt: skip
+            "* more 3.1", "* more 3.", "* more 03.1", "* more 3.1 ", "* more 1", "* more 9", "* more 0", "* more 1 ", "* more", "* granted 0.1 a"]  # fmt: skip
 
 
 class StubCase(ServerCase, FaultCase):
@@ -348,8 +348,8 @@ class Program(StubCase):
 
     def test_options(self) -> None:
         """Its options are the program's, but no seed: the program draws one, and no list of processes shows it."""
-        server = self.stubbed("--transactions", "7", "--names=8", "--name-bytes", "9", "--each", "3", "--epoch", "11", "--connections", "20")
-        self.assertEqual(self.words(), "locks --transactions 7 --names 8 --name-bytes 9 --connections 21 --epoch 11 --each 3".split())
+        server = self.stubbed("--transactions", "7", "--names=8", "--name-bytes", "9", "--names-each", "2", "--each", "3", "--epoch", "11", "--connections", "20")
+        self.assertEqual(self.words(), "locks --transactions 7 --names 8 --name-bytes 9 --names-each 2 --connections 21 --epoch 11 --each 3".split())
         self.assertFalse(os.path.exists(server.path + ".epoch"))
         self.stubbed()
         self.assertRegex(" ".join(self.words()), r"\Alocks --connections 16385 --epoch \d{13,}\Z")

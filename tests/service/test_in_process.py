@@ -97,7 +97,7 @@ class Inside(Calls):
 
     def test_ranges(self) -> None:
         """What is out of range is named."""
-        for what, number in ("transactions", 0), ("names", 16_777_217), ("name_bytes", 1_025):
+        for what, number in ("transactions", 0), ("names", 16_777_217), ("name_bytes", 1_025), ("names_each", -1), ("names_each", 2**32):
             same(str(raises(ValueError, self.opened, **{what: number})), f"{what} is out of range")  # type: ignore[attr-defined]
 
     def test_unlock(self) -> None:

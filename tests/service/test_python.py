@@ -12,9 +12,9 @@ from lib.clients import Apart, Asyncio, Opener, raises, same, waiting
 from lib.world import PROGRAM, Case, until
 
 from pashkure import (Aborted, Closed, Counts, Deadlock, Event, Full, Interrupted, Locks, Misuse, NameTooLong, NotOwner, NoTransaction,
-                      Operator, Retry, Status, Timeout, Totals, Wait, Waiting, testing)  # fmt: skip
+                      Operator, Retry, Status, Timeout, TooManyNames, Totals, Wait, Waiting, testing)  # fmt: skip
 
-OPTIONS = {"test_names": {"name_bytes": 20}, "test_full": {"transactions": 4, "names": 4}}
+OPTIONS = {"test_names": {"name_bytes": 20}, "test_full": {"transactions": 4, "names": 4}, "test_names_each": {"names_each": 2}}
 
 
 class Calls(Opener):
@@ -308,6 +308,20 @@ class Calls(Opener):
         for tx in txs[0], txs[2], txs[3]:
             tx.abort()
         same(locks.totals(), Totals(4, 1, 3, 0))
+
+    def test_names_each(self) -> None:
+        """A transaction that owns as many names as one may is refused a further one, and its neighbour goes on"""
+        one, two = self.locks.transaction("1", "2"), self.locks.transaction("x")
+        for call in one.lock, one.try_lock:
+            for name in "3", "x":
+                self.assertIn("names_each", str(raises(TooManyNames, call, name)))  # type: ignore[attr-defined]
+        raises(TooManyNames, self.locks.transaction, "4", "5", "6")
+        two.lock("4")
+        one.unlock("1")
+        one.lock("3")
+        same((one.holds(), two.holds()), (["2", "3"], ["4", "x"]))
+        one.commit()
+        two.commit()
 
     def test_threads(self) -> None:
         """Sixteen threads change counters under their locks, and no change is lost"""

@@ -60,6 +60,13 @@ class Full(LockError):
         return f"there is no room for more {self.what}"
 
 
+class TooManyNames(LockError):
+    """The transaction owns as many names as one may, and was refused a further one. It keeps what it owns, and others go on.
+
+    `names_each` of `in_process`, or the option `--names-each` of the service, says how many that are.
+    """
+
+
 # fmt: off
 class Interrupted(LockError): """`interrupt` was called. The transaction does not wait any more, and keeps what it owns."""
 class Aborted(LockError): """Somebody else aborted the transaction: another thread or task, or the operator. It owns nothing any more."""
@@ -93,6 +100,7 @@ class NameTooLong(Misuse):
 _REFUSALS = {
     b"waiting": Waiting("the transaction waits for a lock"),
     b"not-owner": NotOwner("the transaction does not own the name"),
+    b"too-many-names": TooManyNames("the transaction owns as many names as one may; to allow more, raise names_each, or --names-each of the service"),
     b"operator": Misuse("only the operator may ask for this, at the operator's socket"),
     b"no-epoch": Misuse("the service was started without an epoch, so it has no fences"),
     b"no-transaction": NoTransaction("no live transaction has this key"),

@@ -23,7 +23,8 @@ R = TypeVar("R")
 HELD, WAITS, DEADLOCK, BUSY = range(1, 5)
 """Results of `pashkure.h`."""
 REFUSALS = {16: b"no-transaction", **dict(enumerate((b"waiting", b"not-waiting", b"name-empty", b"name-too-long", b"not-owner",
-                                                     b"transactions-full", b"names-full", b"labels-full", b"counts-full"), 18))}  # fmt: skip
+                                                     b"transactions-full", b"names-full", b"labels-full", b"counts-full"), 18)),
+            28: b"too-many-names"}  # fmt: skip
 LIMITS = (8_796_093_022_207, 4_611_686_018_360_279_040)
 """`PASHKURE_LABELS_FULL` begins at so many requests that waited or were told of a deadlock, `PASHKURE_COUNTS_FULL` at so many events."""
 
@@ -171,9 +172,11 @@ class InProcess(backend.Ending):
     pause = staticmethod(slept)
     reply_timeout = math.inf  # each request is answered at once
 
-    def __init__(self, transactions: int, names: int, name_bytes: int, watch: Watch) -> None:
+    def __init__(self, transactions: int, names: int, name_bytes: int, names_each: int, watch: Watch) -> None:
+        if not 0 <= names_each < 2**32:
+            raise ValueError("names_each is out of range")
         self.extension, self.transactions, self.name_bytes, self.watch = extension(), transactions, name_bytes, watch
-        self.manager = self.extension.Manager(transactions, names, name_bytes, int.from_bytes(os.urandom(8), "little"))
+        self.manager = self.extension.Manager(transactions, names, name_bytes, names_each, int.from_bytes(os.urandom(8), "little"))
         self._sessions: "weakref.WeakSet[Inside]" = weakref.WeakSet()
         FORGOTTEN.add(self)
 
@@ -220,8 +223,8 @@ class Manages:
     _inside: Type[Any] = InProcess
 
     @classmethod
-    def in_process(cls: Type[L], *, transactions: int = 1024, names: int = 4096, name_bytes: int = 64, retry: Retry = Retry(),
-                   on_event: OnEvent = None, slow_wait: Optional[float] = None) -> L:  # fmt: skip
+    def in_process(cls: Type[L], *, transactions: int = 1024, names: int = 4096, name_bytes: int = 64, names_each: int = 0,
+                   retry: Retry = Retry(), on_event: OnEvent = None, slow_wait: Optional[float] = None) -> L:  # fmt: skip
         """The locks of this process alone, or of the tasks of one loop, which a lock manager inside this process keeps.
 
         The child of a fork finds them closed. There are no fences. Raises `ImportError` if the C extension is not installed, and says why
@@ -229,10 +232,12 @@ class Manages:
 
         - `transactions`: how many can be live at a time, 1 to 65,536.
         - `names`: how many can be owned at a time, 1 to 16,777,216. `name_bytes`: how many bytes each may have, 1 to 1,024.
+        - `names_each`: how many a transaction may own, so that one that asks for many is refused, as `TooManyNames`, before it owns the
+          names of all others. 0: as many as there are.
         - `retry`, `on_event`, `slow_wait`: as for `connect`.
         """
         kind: Any = cls
-        locks: L = kind(cls._inside(transactions, names, name_bytes, Watch(on_event, slow_wait)), retry)
+        locks: L = kind(cls._inside(transactions, names, name_bytes, names_each, Watch(on_event, slow_wait)), retry)
         return locks
 
     def locks(self) -> Dict[str, str]:

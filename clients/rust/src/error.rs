@@ -62,6 +62,9 @@ results! {
         LabelsFull = 25,
         /// After 4,611,686,018,360,279,040 events only ends are taken. End all transactions, and open another manager.
         CountsFull = 26,
+        /// The transaction owns as many names as [`Config::names_each`](crate::Config::names_each) allows, and this is a further one. Each unlock
+        /// makes room.
+        TooManyNames = 28,
     }
 }
 
@@ -94,6 +97,9 @@ results! {
         LabelsFull = 25,
         /// After 4,611,686,018,360,279,040 events only ends are taken. End all transactions, and open other locks.
         CountsFull = 26,
+        /// The transaction owns as many names as [`Config::names_each`](crate::Config::names_each) allows, and this is a further one. Each unlock
+        /// makes room.
+        TooManyNames = 28,
     }
 }
 

@@ -68,7 +68,7 @@ impl LockManager {
     /// [`View::waits_from`] of the owner of the name are the waits of the cycle, which lead to this transaction.
     ///
     /// # Errors
-    /// `NoTransaction`, `Waiting`, `CountsFull`, `NameEmpty`, `NameTooLong`, `NamesFull`, `LabelsFull`.
+    /// `NoTransaction`, `Waiting`, `CountsFull`, `NameEmpty`, `NameTooLong`, `TooManyNames`, `NamesFull`, `LabelsFull`.
     pub fn lock(&mut self, key: Key, name: impl AsRef<[u8]>) -> Result<Lock, Refusal> {
         let name = name.as_ref();
         match unsafe { sys::pashkure_lock(&mut self.raw, key, name.as_ptr().cast(), name.len()) } {

@@ -30,7 +30,7 @@ pub struct Config {
     pub name_bytes: u32,
     pub seed: u64,
     pub buckets: u32,
-    pub reserved: u32,
+    pub names_each: u32,
 }
 
 #[derive(Default)]

@@ -51,7 +51,7 @@ impl<L: Borrow<Locks>> Transaction<L> {
     ///
     /// # Errors
     /// `Deadlock` at once, if the wait would close a cycle of waits. A transaction that sleeps never gets it. `Interrupted`, `Waiting`,
-    /// `CountsFull`, `NameEmpty`, `NameTooLong`, `NamesFull`, `LabelsFull`.
+    /// `CountsFull`, `NameEmpty`, `NameTooLong`, `TooManyNames`, `NamesFull`, `LabelsFull`.
     pub fn lock(&mut self, name: impl AsRef<[u8]>) -> Result<Owned, LockError> {
         let told = self.request(name.as_ref(), sys::FOREVER);
         owned(told)

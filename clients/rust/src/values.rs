@@ -9,7 +9,7 @@ pub(crate) fn random() -> u64 {
     RandomState::new().build_hasher().finish()
 }
 
-/// The numbers with which a manager is opened. It takes at most `(name_bytes + 71) * names + 81 * transactions + 1,000` bytes, and
+/// The numbers with which a manager is opened. It takes at most `(name_bytes + 71) * names + 85 * transactions + 1,000` bytes, and
 /// [`Locks`](crate::Locks) 16 bytes more a bucket, 12 a name, and some 4,600 a transaction.
 #[derive(Clone, Debug)]
 pub struct Config {
@@ -18,18 +18,26 @@ pub struct Config {
     pub(crate) name_bytes: u32,
     seed: u64,
     pub(crate) buckets: u32,
+    names_each: u32,
 }
 
 impl Config {
     /// How many transactions can be live at a time, and how many names can be owned at a time: 1 to 65,536 and 1 to 16,777,216. [`Locks`](crate::Locks) count
     /// only names that somebody asked for while another one owned them. A name has up to 64 bytes, and the seed is drawn by chance.
     pub fn new(transactions: u32, names: u32) -> Config {
-        Config { transactions, names, name_bytes: 64, seed: random(), buckets: 0 }
+        Config { transactions, names, name_bytes: 64, seed: random(), buckets: 0, names_each: 0 }
     }
 
     /// Sets how many bytes a name may have: 1 to 1,024.
     pub fn name_bytes(self, name_bytes: u32) -> Config {
         Config { name_bytes, ..self }
+    }
+
+    /// Sets how many names a transaction may own, so that one that asks for many is refused, as `TooManyNames`, before it owns the names of all
+    /// others; 0 is as many as there are, and so it is if this is not called. [`Locks`](crate::Locks) do not count those of its first sixteen that
+    /// nobody else has asked for: there it may own sixteen more.
+    pub fn names_each(self, names_each: u32) -> Config {
+        Config { names_each, ..self }
     }
 
     /// Sets the seed of the hash of names. With it names that share a hash can be chosen, which makes calls slow.
@@ -45,8 +53,8 @@ impl Config {
 
     /// As the header has it, for a manager; for locks with the buckets.
     pub(crate) fn plain(&self, buckets: u32) -> sys::Config {
-        let Config { transactions, names, name_bytes, seed, .. } = *self;
-        sys::Config { header: sys::VERSION, transactions, names, name_bytes, seed, buckets, reserved: 0 }
+        let Config { transactions, names, name_bytes, seed, names_each, .. } = *self;
+        sys::Config { header: sys::VERSION, transactions, names, name_bytes, seed, buckets, names_each }
     }
 }
 

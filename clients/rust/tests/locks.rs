@@ -256,6 +256,15 @@ fn an_interrupt_is_told_by_the_call() {
 }
 
 #[test]
+fn a_bulk_is_refused_and_its_neighbour_goes_on() {
+    let locks = Locks::open(&Config::new(2, 64).names_each(4).buckets(8)).unwrap();
+    let (mut bulk, mut other) = (locks.begin().unwrap(), locks.begin().unwrap());
+    let refused = (0..21).map(|number| bulk.lock(format!("{number}"))).find_map(Result::err);
+    assert_eq!(refused, Some(LockError::TooManyNames)); // after 4 to 20 names, by how many of them share a bucket
+    assert_eq!(other.lock("other"), Ok(Owned::New));
+}
+
+#[test]
 fn wrong_use_is_an_error() {
     let locks = Locks::open(&Config::new(2, 1).name_bytes(8).buckets(8).seed(7)).unwrap();
     let (mut transaction, mut other) = (owner(&locks, "x"), owner(&locks, "y"));

@@ -88,6 +88,17 @@ fn one_transaction_owns_a_hundred_thousand_names() {
 }
 
 #[test]
+fn a_bulk_is_refused_and_its_neighbour_goes_on() {
+    let mut manager = LockManager::open(&Config::new(2, 8).names_each(2)).unwrap();
+    let (one, two) = (owner(&mut manager, "x"), owner(&mut manager, "y"));
+    assert_eq!(manager.lock(one, b"z"), Ok(Lock::Owned(Owned::New)));
+    assert_eq!(manager.lock(one, b"w"), Err(Refusal::TooManyNames));
+    assert_eq!(manager.try_lock(one, b"y"), Err(Refusal::TooManyNames));
+    assert_eq!(manager.lock(one, b"x"), Ok(Lock::Owned(Owned::Before)));
+    assert_eq!(manager.lock(two, b"w"), Ok(Lock::Owned(Owned::New)));
+}
+
+#[test]
 fn wrong_use_is_an_error() {
     let mut manager = opened();
     let (one, _two) = (owner(&mut manager, "x"), owner(&mut manager, "y"));

@@ -157,6 +157,7 @@ pub fn late<R: Threads + Wait + Clock + Sync>(
         transactions: 4_096,
         names: 4_096,
         name_bytes: 2,
+        names_each: 0,
         seed: 7,
     };
     let Ok(locks) = Locks::open(alloc, config) else {

@@ -74,6 +74,7 @@ fn run<R: Threads + Wait + Clock + Sync>(
         transactions: MAX_THREADS + 1,
         names: MAX_NAMES,
         name_bytes: 16,
+        names_each: 0,
         seed: 7,
     };
     let mut owners = Vec::with_capacity(alloc, names.len())?;

@@ -14,6 +14,7 @@ fn open_manager(alloc: Global, names: u32, length: usize) -> Option<LockManager>
         transactions: 2,
         names,
         name_bytes: length as u32,
+        names_each: 0,
         seed: 0x0123_4567_89ab_cdef,
     };
     LockManager::open(alloc, config).ok()

@@ -120,6 +120,7 @@ fn main(rt: HostRuntime) -> io::Result<()> {
         transactions: 8,
         names: 4,
         name_bytes: 16,
+        names_each: 0,
         seed: 1,
     };
     match Locks::open(rt.alloc(), config) {

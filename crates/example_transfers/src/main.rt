@@ -14,6 +14,7 @@ const CONFIG: ManagerConfig = ManagerConfig {
     transactions: 2,
     names: 2,
     name_bytes: 10,
+    names_each: 0,
     seed: 1,
 };
 

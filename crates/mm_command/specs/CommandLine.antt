@@ -95,6 +95,9 @@ names_rule = number_rule (codes "names") 1 MAX_NAMES (codes "65536")
 abbrev pub name_bytes_rule : Rule
 name_bytes_rule = number_rule (codes "name-bytes") 1 MAX_NAME_BYTES (codes "64")
 
+abbrev pub names_each_rule : Rule
+names_each_rule = free_number_rule (codes "names-each") 0 MAX_NAMES
+
 abbrev pub locks_seed_rule : Rule
 locks_seed_rule = free_number_rule (codes "seed") 0 18446744073709551615
 
@@ -108,10 +111,10 @@ abbrev pub epoch_rule : Rule
 epoch_rule = free_number_rule (codes "epoch") 1 9223372036854775807
 
 abbrev pub locks_numbers_app : App
-locks_numbers_app = with_rule (with_rule (with_rule (with_rule (new_app (codes "locks")) transactions_rule) names_rule) name_bytes_rule) locks_seed_rule
+locks_numbers_app = with_rule (with_rule (with_rule (with_rule (new_app (codes "locks")) transactions_rule) names_rule) name_bytes_rule) names_each_rule
 
 abbrev pub locks_app : App
-locks_app = with_rule (with_rule (with_rule locks_numbers_app connections_rule) each_rule) epoch_rule
+locks_app = with_rule (with_rule (with_rule (with_rule locks_numbers_app locks_seed_rule) connections_rule) each_rule) epoch_rule
 
 -- a command that says its version
 abbrev pub versioned_app : Text → App

@@ -246,6 +246,7 @@ fn locks(alloc: Global, own: &ArgMatches<'_>) -> Result<Request, AllocError>
         transactions,
         names,
         name_bytes,
+        names_each: own.get_one::<u32>("names-each").unwrap_or(0),
         seed: own.get_one::<u64>("seed"),
         connections: own.get_one::<u32>("connections"),
         each: own.get_one::<u32>("each"),

@@ -156,6 +156,8 @@ spaces and control characters. A line that is no request has the reply
 Ranges:
   --transactions  1 to 65536      --name-bytes   1 to 1024
   --names         1 to 16777216   --connections  1 to 65536
+  --names-each    0 to 16777216: how many names a transaction may own. 0, which
+                  it is if it is not given, stands for as many as there are
   --each          1 to 65536, a quarter of --transactions if it is not given
   --epoch         1 to 9223372036854775807
   --seed          0 to 18446744073709551615
@@ -190,6 +192,7 @@ A refused request changes nothing and has the reply 'refused' with a word:
   name-too-long      the name has more bytes than --name-bytes says
   not-owner          K does not own the name
   names-full         as many names are owned as --names says
+  too-many-names     K owns as many names as --names-each says
   transactions-full  as many transactions are live as --transactions says
   labels-full        there may be no label left for one more wait
   counts-full        the count of events is at its limit

@@ -35,6 +35,7 @@ pub fn run_locks<R: Eprint + RandomSource + AllocGlobal, I: Read, W: Write>(
         transactions: options.transactions,
         names: options.names,
         name_bytes: options.name_bytes,
+        names_each: options.names_each,
         seed,
     };
     match options.connections {

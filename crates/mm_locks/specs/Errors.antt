@@ -3,7 +3,7 @@ use Rattle.std.specs.Prelude.{◌≡◌, Bool, true, false}
 use Rattle.mm_manager.specs.declared.refusal.Refusal.{Refusal}
 use Rattle.mm_manager.specs.declared.refusal.Refusal.TheVariants as refused
 use Rattle.mm_locks.specs.declared.error.LockError.{LockError}
-use Rattle.mm_locks.specs.declared.error.LockError.TheVariants.{Deadlock, NameEmpty, NameTooLong, NotOwner, TransactionsFull, NamesFull, LabelsFull, CountsFull, NotActive}
+use Rattle.mm_locks.specs.declared.error.LockError.TheVariants.{Deadlock, NameEmpty, NameTooLong, NotOwner, TransactionsFull, NamesFull, TooManyNames, LabelsFull, CountsFull, NotActive}
 
 -- ---- refusals
 
@@ -14,6 +14,7 @@ error_of refused.NameTooLong = NameTooLong
 error_of refused.NotOwner = NotOwner
 error_of refused.TransactionsFull = TransactionsFull
 error_of refused.NamesFull = NamesFull
+error_of refused.TooManyNames = TooManyNames
 error_of refused.LabelsFull = LabelsFull
 error_of refused.CountsFull = CountsFull
 error_of refused.NoTransaction = NotActive
@@ -38,6 +39,7 @@ of_lock Deadlock = true
 of_lock NameEmpty = true
 of_lock NameTooLong = true
 of_lock NamesFull = true
+of_lock TooManyNames = true
 of_lock LabelsFull = true
 of_lock CountsFull = true
 of_lock NotActive = true

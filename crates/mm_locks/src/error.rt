@@ -22,6 +22,9 @@ pub enum LockError {
     TransactionsFull,
     #[error("as many names are owned as there can be")]
     NamesFull,
+    /// Give names back, or open the locks with a higher `names_each`.
+    #[error("the transaction owns as many names as one may (names_each of the configuration)")]
+    TooManyNames,
     #[error("there may be no label left for one more wait")]
     LabelsFull,
     #[error("the count of events is at its limit")]
@@ -48,6 +51,7 @@ impl LockError {
             Refusal::NotOwner => LockError::NotOwner,
             Refusal::TransactionsFull => LockError::TransactionsFull,
             Refusal::NamesFull => LockError::NamesFull,
+            Refusal::TooManyNames => LockError::TooManyNames,
             Refusal::LabelsFull => LockError::LabelsFull,
             Refusal::CountsFull => LockError::CountsFull,
             Refusal::NoTransaction | Refusal::Waiting | Refusal::NotWaiting => LockError::NotActive,

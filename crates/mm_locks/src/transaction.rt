@@ -106,9 +106,9 @@ impl<'m, R: Wait> Transaction<'m, R> {
     /// `Deadlock` comes at once too, if the wait would close a cycle of waits; one that sleeps is never told of it. The transaction does not
     /// wait then, and goes on with what it owns. Give back what others wait for before you ask again: `unlock` what was locked since a
     /// savepoint, or drop the transaction. Until then the answer is the same, and the others on the cycle cannot go on. A name that it owns
-    /// already is `Ok`, and is owned once. Refused as `Deadlock`, `NameEmpty`, `NameTooLong`, `NamesFull`, `CountsFull` or `LabelsFull`. A
-    /// refusal changes nothing. `LockManager::lock` says what the call costs without the sleep; a call that slept looks the name up once
-    /// more.
+    /// already is `Ok`, and is owned once. Refused as `Deadlock`, `NameEmpty`, `NameTooLong`, `TooManyNames`, `NamesFull`, `CountsFull` or
+    /// `LabelsFull`. A refusal changes nothing. `LockManager::lock` says what the call costs without the sleep; a call that slept looks the name
+    /// up once more.
     #[inline]
     pub fn lock<'n>(&mut self, name: &'n [u8]) -> Result<Granted<'n>, LockError>
         ensures granted { IfOk result (IsFor self.old.key name.now) }
@@ -191,7 +191,7 @@ impl<'m, R: Wait> Transaction<'m, R> {
 
     /// Locks the name if nobody else owns it, and never sleeps for it. Returns `None` if another transaction owns it.
     ///
-    /// Refused as `NameEmpty`, `NameTooLong`, `NamesFull` or `CountsFull`. `O(length)`.
+    /// Refused as `NameEmpty`, `NameTooLong`, `TooManyNames`, `NamesFull` or `CountsFull`. `O(length)`.
     pub fn try_lock<'n>(&mut self, name: &'n [u8]) -> Result<Option<Granted<'n>>, LockError>
         ensures granted { IfOk result (λ tried. IfSome tried (IsFor self.old.key name.now)) }
         ensures refused { IfErr result (λ error. of_try error ≡ true) }

@@ -13,6 +13,8 @@ pub mod Asked
 pub mod Adopted
 -- from a table with names to what a contract sees
 pub mod Told
+-- what an unlock of whatever name a transaction owns does
+pub mod UnlockAny
 -- a manager that was just opened
 pub mod Opening
 -- a wait that is taken back

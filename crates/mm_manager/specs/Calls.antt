@@ -17,7 +17,7 @@ use Rattle.mm_manager.specs.Permit.{may_ask, may_begin, may_cancel, may_wait}
 use Rattle.mm_manager.specs.LockState.{LockState, Owns, Waits, IsUnowned, KeepOwned, untold}
 use Rattle.mm_manager.specs.Refused.{AdoptRefused, TryRefused, LockRefused, UnlockRefused}
 use Rattle.mm_manager.specs.declared.refusal.Refusal.{Refusal}
-use Rattle.mm_manager.specs.declared.refusal.Refusal.TheVariants.{NoTransaction}
+use Rattle.mm_manager.specs.declared.refusal.Refusal.TheVariants.{NoTransaction, NotOwner}
 use Rattle.mm_manager.specs.declared.reply.Lock.{Lock}
 use Rattle.mm_manager.specs.declared.reply.Lock.TheVariants as lock
 use Rattle.mm_manager.specs.declared.reply.TryLock.{TryLock}
@@ -40,6 +40,7 @@ pub record Gets (old : LockState) (k : Key) (name : List ℕ) (new : LockState) 
   pub others : (h : Key) (other : List ℕ) → other ≢ name → Owns new h other ↔ Owns old h other
   pub waits : (h : Key) (other : List ℕ) → Waits new h other ↔ Waits old h other
   pub config : new.table.config ≡ old.table.config
+  pub names_each : new.names_each ≡ old.names_each
 
 -- h owns the name and k waits for it from now on; all else stays
 pub record Queues (old : LockState) (k : Key) (name : List ℕ) (h : Key) (new : LockState) : Type 0 where
@@ -48,6 +49,7 @@ pub record Queues (old : LockState) (k : Key) (name : List ℕ) (h : Key) (new :
   pub owners : (g : Key) (other : List ℕ) → Owns new g other ↔ Owns old g other
   pub others : (g : Key) (other : List ℕ) → g.process ≢ k.process → Waits new g other ↔ Waits old g other
   pub config : new.table.config ≡ old.table.config
+  pub names_each : new.names_each ≡ old.names_each
 
 -- h owns the name, and waits, directly or over others, for k: so k does not wait, and but for labels and counts all is as before
 pub record IsDeclined (old : LockState) (k : Key) (name : List ℕ) (h : Key) (new : LockState) : Type 0 where
@@ -116,7 +118,7 @@ abbrev pub IsGranted : LockState → LockState → Key → List ℕ → Type 0
 IsGranted old new h name = (g : Grant) × Among g new.granted × (g.key ≡ h) × (name_of old.names g.resource ≡ Some name)
 
 -- what a call of k does to all: who loses a name does not own it afterwards; `granted` are the waits that ended, but for that of k; all else stays, also how many names there can
--- be and how many bytes each may have
+-- be, how many bytes each may have, and how many a transaction may own
 pub record Passes (old : LockState) (k : Key) (Loses : Key → List ℕ → Type 0) (new : LockState) : Type 0 where
   pub keeps : (h : Key) (name : List ℕ) → Owns old h name → ¬ Loses h name → Owns new h name
   pub gains : (h : Key) (name : List ℕ) → Owns new h name → ¬ Loses h name × (Owns old h name ⊎ IsGranted old new h name)
@@ -128,6 +130,7 @@ pub record Passes (old : LockState) (k : Key) (Loses : Key → List ℕ → Type
   pub config : new.table.config ≡ old.table.config
   pub numbers : length new.names.names ≡ length old.names.names
   pub name_bytes : new.names.name_bytes ≡ old.names.name_bytes
+  pub names_each : new.names_each ≡ old.names_each
 
 -- ---- unlock, commit
 
@@ -157,6 +160,15 @@ pub record Ends (old : LockState) (k : Key) (new : LockState) : Type 0 where
 abbrev pub UnlocksName : LockState → Key → List ℕ → Result (Unit {0}) Refusal → LockState → Type 0
 UnlocksName old k name (Ok done) new = Unlocks old k name new
 UnlocksName old k name (Err refusal) new = (new ≡ untold old) × UnlockRefused old k name refusal
+
+-- k may not ask; or it owns no name
+abbrev pub UnlockAnyRefused : LockState → Key → Refusal → Type 0
+UnlockAnyRefused m k refusal = (may_ask m.table k ≡ Err refusal) ⊎ ((may_ask m.table k ≡ Ok tt) × (refusal ≡ NotOwner) × ((name : List ℕ) → ¬ Owns m k name))
+
+-- what an unlock of whatever name k owns does, by its answer
+abbrev pub UnlocksAny : LockState → Key → Result (Unit {0}) Refusal → LockState → Type 0
+UnlocksAny old k (Ok done) new = (name : List ℕ) × Unlocks old k name new
+UnlocksAny old k (Err refusal) new = (new ≡ untold old) × UnlockAnyRefused old k refusal
 
 -- what a commit does, by its answer
 abbrev pub Commits : LockState → Key → Result (Unit {0}) Refusal → LockState → Type 0

@@ -1,8 +1,8 @@
 -- What a contract sees of a lock manager, and who owns and who waits for which name. A name is a list of bytes.
-use Rattle.std.specs.Prelude.{◌≡◌, ◌≢◌, ◌↔◌, ◌≤◌, ◌<◌, ℕ, true, List, [], length, Some, None, is_some, if◌then◌else◌}
+use Rattle.std.specs.Prelude.{◌≡◌, ◌≢◌, ◌↔◌, ◌≤◌, ◌<◌, ◌&&◌, ℕ, Bool, true, not, nat_eq, nat_le, List, [], length, Some, None, is_some, if◌then◌else◌}
 use Rattle.mm_arena.specs.declared.key.Key.{Key}
 use Rattle.mm_names.specs.Names.{NameTable, name_of, IsLawful as IsLawfulNames}
-use Rattle.mm_rules.specs.TableState.{TableState, is_live, owner_of, wait_of}
+use Rattle.mm_rules.specs.TableState.{TableState, is_live, owned_count, owner_of, wait_of}
 use Rattle.mm_rules.specs.Laws.{Laws, AtRest}
 use Rattle.mm_rules.specs.TakeBack.{HasNoVictim, NobodyWaitsForItself}
 use Rattle.mm_settled.specs.declared.reply.Grant.{Grant}
@@ -14,6 +14,7 @@ pub record LockState : Type 0 where
   pub names : NameTable
   pub granted : List Grant  -- the grants of the last call, in order
   pub totals : Totals  -- what was counted since the opening
+  pub names_each : ℕ  -- how many names a transaction may own; 0: as many as there are
 
 -- k owns the name
 abbrev pub Owns : LockState → Key → List ℕ → Type 0
@@ -26,6 +27,10 @@ Waits m k name = (n : ℕ) × (name_of m.names n ≡ Some name) × (wait_of m.ta
 -- nobody owns the name
 abbrev pub IsUnowned : LockState → List ℕ → Type 0
 IsUnowned m name = (k : Key) → ¬ Owns m k name
+
+-- k owns as many names as a transaction may
+abbrev pub has_all : LockState → Key → Bool
+has_all m k = not (nat_eq m.names_each 0) && nat_le m.names_each (owned_count m.table k)
 
 -- the same, with nothing told
 abbrev pub untold : LockState → LockState

@@ -20,6 +20,7 @@ opening_state c = record {
   names = nameless c.names c.name_bytes;
   granted = [];
   totals = nothing_counted;
+  names_each = c.names_each;
 }
 
 -- there are to be no transactions, or too many

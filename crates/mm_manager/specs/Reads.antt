@@ -29,7 +29,7 @@ HasStatus m k (Err refusal) = (is_live m.table k ≡ false) × (refusal ≡ NoTr
 
 -- the numbers with which the manager was opened; the seed is not told, and 0 stands for it
 abbrev pub config_of : LockState → ManagerConfig
-config_of m = record { transactions = m.table.config.processes; names = m.table.config.resources; name_bytes = m.names.name_bytes; seed = 0 }
+config_of m = record { transactions = m.table.config.processes; names = m.table.config.resources; name_bytes = m.names.name_bytes; names_each = m.names_each; seed = 0 }
 
 -- ---- the live transactions
 

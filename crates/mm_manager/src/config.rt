@@ -14,6 +14,9 @@ pub struct ManagerConfig {
     pub names: u32,
     /// How many bytes a name may have: 1 to 1,024. Memory is taken for this many bytes of each name.
     pub name_bytes: u32,
+    /// How many names a transaction may own, so that one that asks for many is refused before it owns the names of all others: any number, and
+    /// 0 for as many as there are.
+    pub names_each: u32,
     /// Any number. Keep it from those who choose the names: with it they could choose names of one hash.
     pub seed: u64,
 }

@@ -5,7 +5,7 @@
 //! - `numbers`: a number has a name exactly while it has an owner.
 //! - `named`: a table whose resources have names.
 //! - `open`: the table and the names of a manager that is opened.
-//! - `begin`, `lock`, `try_lock`, `adopt`, `unlock`, `commit`, `abort`, `cancel`: the calls, over these.
+//! - `begin`, `lock`, `try_lock`, `adopt`, `unlock`, `unlock_any`, `commit`, `abort`, `cancel`: the calls, over these.
 //! - `manager`: `LockManager`, with one method for each call.
 //! - `reads`: what can be read of a manager.
 //! - `graph`: the wait-for graph. `transactions`: the live transactions.
@@ -32,6 +32,7 @@ mod totals;
 mod transactions;
 mod try_lock;
 mod unlock;
+mod unlock_any;
 
 pub use config::ManagerConfig;
 pub use graph::Graph;

@@ -1,16 +1,18 @@
 //! The lock manager.
-ghost use Rattle.std.specs.Prelude.{◌≡◌, ◌↔◌, ◌≤◌, ℕ, List, [], Some, Ok, Err, IfOk, IfErr, OnOk, option_copied, vec_capacity, length};
+ghost use Rattle.std.specs.Prelude.{◌≡◌, ◌≢◌, ◌↔◌, ◌≤◌, ℕ, List, [], true, false, Some, Ok, Err, IfOk, IfErr, OnOk, option_copied, vec_capacity, length};
 ghost use Rattle.std.specs.Bool.{OnTrue};
 ghost use Rattle.mm_arena.specs.declared.key.Key.{Key as KeyValue};
 ghost use Rattle.mm_lists.specs.Members.{Among, NoRepeat};
 ghost use Rattle.mm_names.specs.Names.{name_of};
-ghost use Rattle.mm_rules.specs.TableState.{owner_of};
+ghost use Rattle.mm_rules.specs.TableState.{owned_count, owner_of};
 ghost use Rattle.mm_rules.specs.Event.{tenant_of};
-ghost use Rattle.mm_manager.specs.LockState.{HasOwnSlot, Owns, IsLawful};
+ghost use Rattle.mm_manager.specs.LockState.{HasOwnSlot, Owns, IsLawful, has_all};
 ghost use Rattle.mm_manager.specs.Permit.{counts_left, labels_left, may_adopt, may_ask, may_request};
 ghost use Rattle.mm_manager.specs.Opening.{opening_state, IsTransactionsOut, IsNamesOut, IsNameBytesOut};
-ghost use Rattle.mm_manager.specs.Calls.{AdoptsName, AdoptsNumber, Begins, LocksName, TriesName, Requests, Tries, UnlocksName, Commits, Aborts, Cancels};
-ghost use Rattle.mm_manager.specs.Made.{Locked};
+ghost use Rattle.mm_manager.specs.Calls.{AdoptsName, AdoptsNumber, Begins, LocksName, TriesName, Requests, Tries, UnlocksAny, UnlocksName, Commits, Aborts, Cancels};
+ghost use Rattle.mm_manager.specs.Made.{Locked, Tried};
+ghost use Rattle.mm_manager.specs.private.Requests.{Holds};
+ghost use Rattle.mm_manager.specs.Refused.{TryRefused};
 ghost use Rattle.mm_manager.specs.Reads.{HasStatus, config_of, live_of, wait_at, waits_of};
 ghost use Rattle.mm_manager.specs.Totals.{after_begin, after_lock, after_commit, after_abort, after_cancel};
 
@@ -36,6 +38,8 @@ pub struct LockManager {
     totals: Totals,
     /// Whether the list of the table tells of the last call. It does if that handed something over.
     tells: bool,
+    /// How many names a transaction may own; 0: as many as there are.
+    names_each: u32,
 }
 
 // By hand, so that a crate that drops a manager proves nothing of how its parts are dropped.
@@ -45,6 +49,7 @@ impl Drop for LockManager {
             named: _,
             totals: _,
             tells: _,
+            names_each: _,
         } = self;
     }
 }
@@ -90,6 +95,7 @@ impl LockManager {
             named: NamedTable { table, names },
             totals: Totals::NONE,
             tells: false,
+            names_each: config.names_each,
         })
     }
 
@@ -121,15 +127,16 @@ impl LockManager {
     ///   keeps what it owns, and decides what to give back. But for labels and counts all is as it was. Whoever asks again before one of those on
     ///   that way has given something back is told so again.
     ///
-    /// Nobody else's owners or waits change. Refused as `NoTransaction`, `Waiting`, `CountsFull`, `NameEmpty`, `NameTooLong`, `NamesFull` or
-    /// `LabelsFull`, which are tested in this order: as `CountsFull` if `begin` is, as `NamesFull` if nobody owns the name and all numbers are
-    /// taken, and as `LabelsFull` if another transaction owns it, and half as many requests were answered `Waits` or `Deadlock` as labels can
+    /// Nobody else's owners or waits change. Refused as `NoTransaction`, `Waiting`, `CountsFull`, `NameEmpty`, `NameTooLong`, `TooManyNames`,
+    /// `NamesFull` or `LabelsFull`, which are tested in this order: as `CountsFull` if `begin` is, as `TooManyNames` if the transaction owns as many
+    /// names as it may, and not this one, as `NamesFull` if nobody owns the name and all numbers are taken, and as `LabelsFull` if another transaction owns it, and half as many requests were answered `Waits` or `Deadlock` as labels can
     /// be high, 8,796,093,022,207. `O(length)` if nobody else owns it; a wait and a deadlock cost the settle that follows.
     // In place: it is one call itself, of `NamedTable::lock`.
     #[inline(always)]
     pub fn lock(&mut self, key: Key, name: &[u8]) -> Result<Lock, Refusal>
         ensures locks { LocksName self.old key name.now result self.new }
         ensures may { OnOk result (may_request self.old.table self.old.names.name_bytes key name.now ≡ Ok tt) }
+        ensures room { IfOk result (λ answer. answer ≢ Lock.Held → has_all self.old key ≡ false) }
         ensures step { IfOk result (λ answer. Requests self.old.table self.old.names self.old.totals key name.now answer self.new.table self.new.names) }
         ensures granted { self.new.granted ≡ [] }
         ensures totals { self.new.totals ≡ after_lock self.old.totals result }
@@ -143,6 +150,7 @@ impl LockManager {
         requires { may_ask self.old.table key ≡ Ok tt }
         ensures locks { LocksName self.old key name.now result self.new }
         ensures may { OnOk result (may_request self.old.table self.old.names.name_bytes key name.now ≡ Ok tt) }
+        ensures room { IfOk result (λ answer. answer ≢ Lock.Held → has_all self.old key ≡ false) }
         ensures step { IfOk result (λ answer. Requests self.old.table self.old.names self.old.totals key name.now answer self.new.table self.new.names) }
         ensures granted { self.new.granted ≡ [] }
         ensures totals { self.new.totals ≡ after_lock self.old.totals result }
@@ -156,11 +164,69 @@ impl LockManager {
         requires { OnTrue is_active (may_ask self.old.table key ≡ Ok tt) }
         ensures { Locked self.old key name.now result self.new }
     {
+        if self.has_all(key) {
+            self.hold(key, name)?;
+            return Ok(Lock::Held);
+        }
+        self.ask_table(key, name, is_active)
+    }
+
+    /// `ask_for` by a transaction that may own one name more.
+    #[inline(always)]
+    fn ask_table(&mut self, key: Key, name: &[u8], is_active: bool) -> Result<Lock, Refusal>
+        requires active { OnTrue is_active (may_ask self.old.table key ≡ Ok tt) }
+        requires room { has_all self.old key ≡ false }
+        ensures { Locked self.old key name.now result self.new }
+    {
         self.named.table.is_at_rest();
         let answer = self.named.lock(&self.totals, key, name, is_active);
         self.tells = false;
         self.totals.count_lock(&answer);
         answer
+    }
+
+    /// Returns whether a transaction owns as many names as it may.
+    #[inline(always)]
+    fn has_all(&self, key: Key) -> bool
+        ensures { result ≡ has_all self.now key }
+    {
+        self.names_each != 0 && self.named.table.table().owned_len(key) >= self.names_each
+    }
+
+    /// Answers a request of a transaction that owns as many names as it may: it is refused, unless the transaction owns the name.
+    #[inline(never)]
+    fn hold(&mut self, key: Key, name: &[u8]) -> Result<(), Refusal>
+        requires { has_all self.old key ≡ true }
+        ensures { Holds self.old key name.now result self.new }
+    {
+        self.tells = false;
+        self.may_hold(key, name)
+    }
+
+    /// Tests such a request.
+    fn may_hold(&self, key: Key, name: &[u8]) -> Result<(), Refusal>
+        requires { has_all self.now key ≡ true }
+        ensures may { OnOk result (may_request self.now.table self.now.names.name_bytes key name.now ≡ Ok tt) }
+        ensures owns { OnOk result (Owns self.now key name.now) }
+        ensures refused { IfErr result (λ refusal. TryRefused self.now key name.now refusal) }
+    {
+        let table = self.named.table.table();
+        permit::may_request(table, &self.named.names, key, name)?;
+        if self.owns(key, name) {
+            Ok(())
+        } else {
+            Err(Refusal::TooManyNames)
+        }
+    }
+
+    /// Returns whether a transaction owns a name.
+    fn owns(&self, key: Key, name: &[u8]) -> bool
+        ensures { (result ≡ true) ↔ Owns self.now key name.now }
+    {
+        match self.owner(name) {
+            None => false,
+            Some(owner) => owner == key,
+        }
     }
 
     /// Asks for a name, and gets it if nobody owns it. It never waits.
@@ -169,14 +235,27 @@ impl LockManager {
     /// - `Held`: the transaction owns it already, and nothing changes.
     /// - `Busy`: the holder owns it, and nothing changes.
     ///
-    /// Refused as `NoTransaction`, `Waiting`, `CountsFull`, `NameEmpty`, `NameTooLong` or `NamesFull`, which are tested in this order, and
-    /// mean what they do of `lock`. `O(length)`.
+    /// Refused as `NoTransaction`, `Waiting`, `CountsFull`, `NameEmpty`, `NameTooLong`, `TooManyNames` or `NamesFull`, which are tested in this
+    /// order, and mean what they do of `lock`. `O(length)`.
     pub fn try_lock(&mut self, key: Key, name: &[u8]) -> Result<TryLock, Refusal>
         ensures tries { TriesName self.old key name.now result self.new }
         ensures may { OnOk result (may_request self.old.table self.old.names.name_bytes key name.now ≡ Ok tt) }
+        ensures room { IfOk result (λ answer. answer ≢ TryLock.Held → has_all self.old key ≡ false) }
         ensures step { IfOk result (λ answer. Tries self.old.table self.old.names key name.now answer self.new.table self.new.names) }
         ensures granted { self.new.granted ≡ [] }
         ensures totals { self.new.totals ≡ self.old.totals }
+    {
+        if self.has_all(key) {
+            self.hold(key, name)?;
+            return Ok(TryLock::Held);
+        }
+        self.try_table(key, name)
+    }
+
+    /// `try_lock` by a transaction that may own one name more.
+    fn try_table(&mut self, key: Key, name: &[u8]) -> Result<TryLock, Refusal>
+        requires { has_all self.old key ≡ false }
+        ensures { Tried self.old key name.now result self.new }
     {
         self.named.table.is_at_rest();
         self.tells = false;
@@ -190,7 +269,8 @@ impl LockManager {
     /// - `Held`: the transaction owns it already, and nothing changes.
     /// - `Busy`: the holder owns it, and nothing changes.
     ///
-    /// It is no event: neither `events` nor `totals` counts it. `granted` is empty after it.
+    /// It is no event: neither `events` nor `totals` counts it. `granted` is empty after it. `names_each` does not bound it, since the transaction
+    /// owned the name before by the caller's word.
     ///
     /// Refused as `NoTransaction`, `CountsFull`, `NameEmpty`, `NameTooLong` or `NamesFull`, which are tested in this order, and mean what they do
     /// of `lock`. `O(length)`.
@@ -216,6 +296,20 @@ impl LockManager {
     {
         self.named.table.is_at_rest();
         let answer = self.named.unlock(key, name);
+        self.tells = answer.is_ok();
+        answer
+    }
+
+    /// Hands over one of the names of a transaction, as `unlock` does, whichever it is. So a caller can end a transaction of many names by parts,
+    /// and answer others between them.
+    ///
+    /// Refused as `NoTransaction`, `Waiting` or, if it owns nothing, `NotOwner`, which are tested in this order. It costs what `unlock` costs.
+    pub fn unlock_any(&mut self, key: Key) -> Result<(), Refusal>
+        ensures unlocks { UnlocksAny self.old key result self.new }
+        ensures totals { self.new.totals ≡ self.old.totals }
+    {
+        self.named.table.is_at_rest();
+        let answer = self.named.unlock_any(key);
         self.tells = answer.is_ok();
         answer
     }
@@ -291,6 +385,13 @@ impl LockManager {
         reads::status(self.named.table.table(), key)
     }
 
+    /// Returns how many names the transaction owns; 0 if the key is not live. Constant time.
+    pub fn owned_len(&self, key: Key) -> u32
+        ensures { result ≡ owned_count self.now.table key }
+    {
+        self.named.table.table().owned_len(key)
+    }
+
     /// Lists the numbers of the names that the transaction owns, in place of what `numbers` held, each once, in no order that is promised;
     /// none if the key is not live. `numbers` has room for each number, and no memory is taken. `O(its names)`.
     pub fn holds(&self, key: Key, numbers: &mut Vec<u32>)
@@ -337,6 +438,7 @@ impl LockManager {
             transactions: table.processes,
             names: table.resources,
             name_bytes: self.named.names.name_bytes(),
+            names_each: self.names_each,
             seed: 0,
         }
     }

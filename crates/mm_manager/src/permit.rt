@@ -1,6 +1,6 @@
 //! What a call is refused for before the table is asked.
 ghost use Rattle.std.specs.Prelude.{◌≡◌, ◌≢◌, ◌<◌, ◌-◌, ◌/◌, ◌^◌, Ok, Err};
-ghost use Rattle.mm_manager.specs.Permit.{first_refusal, counts_left, labels_left, may_ask, may_cancel, may_count, may_name, may_own, may_wait};
+ghost use Rattle.mm_manager.specs.Permit.{first_refusal, counts_left, labels_left, may_ask, may_cancel, may_count, may_name, may_own, may_request, may_wait};
 ghost use Rattle.mm_manager.specs.Totals.{all_of};
 ghost use Rattle.mm_manager.specs.private.Requests.{may_ask_more};
 
@@ -71,6 +71,15 @@ pub fn may_own(table: &Table, key: Key) -> Result<(), Refusal>
         return Err(Refusal::NoTransaction);
     }
     may_count(table)
+}
+
+/// Returns whether a transaction may ask for a name: it may ask, an event may be counted, and these bytes can be a name.
+pub fn may_request(table: &Table, names: &Names, key: Key, name: &[u8]) -> Result<(), Refusal>
+    ensures { result ≡ may_request table.now names.now.name_bytes key name.now }
+{
+    may_ask(table, key)?;
+    may_count(table)?;
+    may_name(names, name)
 }
 
 /// Returns how many events can be counted before `CountsFull`.

@@ -37,6 +37,9 @@ pub enum Refusal {
     TransactionsFull,
     #[error("as many names are owned as there can be")]
     NamesFull,
+    /// Only of `lock` and `try_lock`. Raise `names_each` of the configuration, or give names back.
+    #[error("the transaction owns as many names as one may")]
+    TooManyNames,
     /// Only of `lock`, if it would wait.
     #[error("there may be no label left for one more wait")]
     LabelsFull,

@@ -4,9 +4,8 @@ ghost use Rattle.mm_manager.specs.Calls.{Tries};
 ghost use Rattle.mm_manager.specs.Permit.{may_ask, may_request, event_limit, may_name};
 ghost use Rattle.mm_manager.specs.private.Handed.{IsSound};
 ghost use Rattle.mm_manager.specs.private.Room.{HasReserve};
-ghost use Rattle.mm_manager.specs.Refused.{TryRefused};
 ghost use Rattle.mm_manager.specs.private.Numbers.{bare, AreNumbered};
-ghost use Rattle.mm_manager.specs.private.Requests.{tried_by};
+ghost use Rattle.mm_manager.specs.private.Requests.{TryRefusedByNames, tried_by};
 
 use crate::lock::lock_number;
 use crate::named::NamedTable;
@@ -20,7 +19,7 @@ impl NamedTable {
         requires { IsSound self.old }
         ensures tried { IfOk result (λ answer. Tries self.old.table.table self.old.names key name.now answer self.new.table.table self.new.names) }
         ensures may { OnOk result (may_request self.old.table.table self.old.names.name_bytes key name.now ≡ Ok tt) }
-        ensures refused { IfErr result (λ refusal. TryRefused (bare self.old.table.table self.old.names) key name.now refusal) }
+        ensures refused { IfErr result (λ refusal. TryRefusedByNames (bare self.old.table.table self.old.names) key name.now refusal) }
         ensures table { OnErr result (self.new.table.table ≡ self.old.table.table) }
         ensures names { OnErr result (self.new.names ≡ self.old.names) }
         ensures sound { IsSound self.new }
@@ -39,7 +38,7 @@ impl NamedTable {
         requires left { HasReserve self.old.table.table }
         ensures tried { IfOk result (λ answer. Tries self.old.table.table self.old.names key name.now answer self.new.table.table self.new.names) }
         ensures named { OnOk result (may_name self.old.names.name_bytes name.now ≡ Ok tt) }
-        ensures refused { IfErr result (λ refusal. TryRefused (bare self.old.table.table self.old.names) key name.now refusal) }
+        ensures refused { IfErr result (λ refusal. TryRefusedByNames (bare self.old.table.table self.old.names) key name.now refusal) }
         ensures table { OnErr result (self.new.table.table ≡ self.old.table.table) }
         ensures names { OnErr result (self.new.names ≡ self.old.names) }
         ensures numbered { AreNumbered self.new.table.table self.new.names }

@@ -27,7 +27,7 @@ impl NamedTable {
     }
 
     /// Hands over a number that has a name.
-    fn release_number(&mut self, key: Key, number: u32) -> Result<(), Refusal>
+    pub(crate) fn release_number(&mut self, key: Key, number: u32) -> Result<(), Refusal>
         requires sound { IsSound self.old }
         requires named { IsSome (name_of self.old.names number) }
         ensures owned { OnOk result (owner_of self.old.table.table number ≡ Some key) }

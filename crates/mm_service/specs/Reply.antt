@@ -3,7 +3,7 @@ use Rattle.std.specs.Prelude.{Option, Some, None, unwrap_or, ℕ, List, [], ◌+
 use Rattle.mm_arena.specs.declared.key.Key.{Key}
 use Rattle.mm_arena.specs.Key.{key_text}
 use Rattle.mm_manager.specs.declared.refusal.Refusal.{Refusal}
-use Rattle.mm_manager.specs.declared.refusal.Refusal.TheVariants.{NoTransaction, Waiting, NameEmpty, NameTooLong, NotOwner, NotWaiting, TransactionsFull, NamesFull, LabelsFull, CountsFull}
+use Rattle.mm_manager.specs.declared.refusal.Refusal.TheVariants.{NoTransaction, Waiting, NameEmpty, NameTooLong, NotOwner, NotWaiting, TransactionsFull, NamesFull, TooManyNames, LabelsFull, CountsFull}
 use Rattle.mm_manager.specs.declared.reply.TryLock.{TryLock}
 use Rattle.mm_manager.specs.declared.reply.TryLock.TheVariants as tried
 use Rattle.mm_manager.specs.declared.reply.Status.{Status}
@@ -25,6 +25,7 @@ refusal_word NotOwner = codes "not-owner"
 refusal_word NotWaiting = codes "not-waiting"
 refusal_word TransactionsFull = codes "transactions-full"
 refusal_word NamesFull = codes "names-full"
+refusal_word TooManyNames = codes "too-many-names"
 refusal_word LabelsFull = codes "labels-full"
 refusal_word CountsFull = codes "counts-full"
 

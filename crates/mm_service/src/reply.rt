@@ -66,6 +66,7 @@ pub fn word_of(refusal: Refusal) -> &'static [u8]
         Refusal::NotWaiting => b"not-waiting",
         Refusal::TransactionsFull => b"transactions-full",
         Refusal::NamesFull => b"names-full",
+        Refusal::TooManyNames => b"too-many-names",
         Refusal::LabelsFull => b"labels-full",
         Refusal::CountsFull => b"counts-full",
     }

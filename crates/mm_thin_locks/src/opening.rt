@@ -8,7 +8,8 @@ use thiserror::Error;
 pub struct ThinLocksConfig {
     /// How many transactions there can be at a time, how many of their names the manager can have, how many bytes a name may have, and a
     /// seed. A name is the manager's from the first time that somebody else asks for it, until it is free; so are all
-    /// names of a transaction that waits, each name of one after its sixteenth, and a name of more than 63 bytes.
+    /// names of a transaction that waits, each name of one after its sixteenth, and a name of more than 63 bytes. `names_each` bounds how many
+    /// of those a transaction may own when it asks for one more: so it may own sixteen besides.
     pub manager: ManagerConfig,
     /// How many buckets there are: 1 to 16,777,216. Two names of one bucket cannot both be locked without the manager, so take several times as
     /// many as names that are locked at a time.

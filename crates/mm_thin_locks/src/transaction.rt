@@ -59,7 +59,7 @@ impl<'s, 'm, R: Wait + Clock> Transaction<'s, 'm, R> {
     /// would close a cycle of waits; one that sleeps is never told of it. The transaction does not wait then, and goes on with what it owns. Give
     /// back what others wait for before you ask again: `unlock` what was locked since a savepoint, or drop the transaction. Until then the answer
     /// is the same, and the others on the cycle cannot go on. A name that it owns already is `Ok`, and is owned once. Refused as `Deadlock`,
-    /// `NameEmpty`, `NameTooLong`, `NamesFull`, `CountsFull` or `LabelsFull`.
+    /// `NameEmpty`, `NameTooLong`, `TooManyNames`, `NamesFull`, `CountsFull` or `LabelsFull`.
     #[inline]
     pub fn lock<'n>(&mut self, name: &'n [u8]) -> Result<Granted<'n>, LockError>
         ensures granted { IfOk result (IsFor self.old.session.now.worker.at name.now) }
@@ -146,7 +146,7 @@ impl<'s, 'm, R: Wait + Clock> Transaction<'s, 'm, R> {
 
     /// Locks the name if nobody else owns it, and never sleeps for it. Returns `None` if another transaction owns it.
     ///
-    /// Refused as `NameEmpty`, `NameTooLong`, `NamesFull` or `CountsFull`, as `LockManager::try_lock` is.
+    /// Refused as `NameEmpty`, `NameTooLong`, `TooManyNames`, `NamesFull` or `CountsFull`, as `LockManager::try_lock` is.
     pub fn try_lock<'n>(&mut self, name: &'n [u8]) -> Result<Option<Granted<'n>>, LockError>
         ensures granted { IfOk result (λ tried. IfSome tried (IsFor self.old.session.now.worker.at name.now)) }
         ensures in_time { IfErr result (λ error. error ≢ LockError.TimedOut) }

@@ -19,6 +19,6 @@ no_worker = record { of = no_opening; at = 0; records = [] }
 pub no_hall : HallState
 no_hall =
     record {
-      desk = record { manager = opening_state (record { transactions = 0; names = 0; name_bytes = 0; seed = 0 }); office = record { of = no_opening; desk = no_desk; workers = 0; max_workers = 0 }; keys = [] };
+      desk = record { manager = opening_state (record { transactions = 0; names = 0; name_bytes = 0; names_each = 0; seed = 0 }); office = record { of = no_opening; desk = no_desk; workers = 0; max_workers = 0 }; keys = [] };
       room = 0;
     }

@@ -21,6 +21,7 @@ refusal_number refused.TransactionsFull = 23
 refusal_number refused.NamesFull = 24
 refusal_number refused.LabelsFull = 25
 refusal_number refused.CountsFull = 26
+refusal_number refused.TooManyNames = 28
 
 abbrev pub begin_number : Result Key Refusal → ℕ
 begin_number (Ok k) = 0

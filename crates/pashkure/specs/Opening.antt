@@ -1,5 +1,5 @@
 -- What a configuration is refused for.
-use Rattle.std.specs.Prelude.{ℕ, ◌/◌, Bool, if◌then◌else◌, ◌||◌, ◌&&◌, nat_eq, nat_lt}
+use Rattle.std.specs.Prelude.{ℕ, ◌/◌, Bool, if◌then◌else◌, ◌||◌, nat_eq, nat_lt}
 use Rattle.mm_names.specs.declared.config.TheConstants.NamesConfig.{MAX_NAMES, MAX_NAME_BYTES}
 use Rattle.mm_rules.specs.declared.config.TheConstants.Config.{MAX_PROCESSES}
 use Rattle.pashkure.specs.declared.plain.PlainConfig.{PlainConfig}
@@ -15,5 +15,5 @@ config_fault c =
     if is_out c.transactions MAX_PROCESSES then 35 else
     if is_out c.names MAX_NAMES then 36 else
     if is_out c.name_bytes MAX_NAME_BYTES then 37 else
-    if nat_eq c.buckets 0 && nat_eq c.reserved 0 then 0 else 38
+    if nat_eq c.buckets 0 then 0 else 40
     else 34

@@ -13,7 +13,7 @@ use Rattle.pashkure.specs.declared.plain.PlainSeen.{PlainSeen}
 use Rattle.pashkure.specs.declared.plain.PlainCounts.{PlainCounts}
 
 abbrev pub config_of : PlainConfig → ManagerConfig
-config_of c = record { transactions = c.transactions; names = c.names; name_bytes = c.name_bytes; seed = c.seed }
+config_of c = record { transactions = c.transactions; names = c.names; name_bytes = c.name_bytes; names_each = c.names_each; seed = c.seed }
 
 abbrev pub key_of : PlainKey → Key
 key_of k = record { process = k.slot; generation = k.generation }

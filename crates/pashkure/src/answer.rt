@@ -32,8 +32,6 @@ pub const BAD_NAMES: u32 = 36;
 
 pub const BAD_NAME_BYTES: u32 = 37;
 
-pub const BAD_RESERVED: u32 = 38;
-
 pub const NO_MEMORY: u32 = 39;
 
 pub const BAD_BUCKETS: u32 = 40;
@@ -52,6 +50,7 @@ pub fn of_refusal(refusal: Refusal) -> u32
         Refusal::NamesFull => 24,
         Refusal::LabelsFull => 25,
         Refusal::CountsFull => 26,
+        Refusal::TooManyNames => 28,
     }
 }
 

@@ -2,7 +2,7 @@
 ghost use Rattle.std.specs.Prelude.{◌≡◌};
 ghost use Rattle.pashkure.specs.Opening.{config_fault, is_out};
 
-use crate::answer::{BAD_NAME_BYTES, BAD_NAMES, BAD_RESERVED, BAD_TRANSACTIONS, BAD_VERSION, OK};
+use crate::answer::{BAD_BUCKETS, BAD_NAME_BYTES, BAD_NAMES, BAD_TRANSACTIONS, BAD_VERSION, OK};
 use crate::plain::PlainConfig;
 use mm_names::NamesConfig;
 use mm_settled::Config;
@@ -27,8 +27,8 @@ pub fn fault(config: &PlainConfig) -> u32
     if is_out(config.name_bytes, NamesConfig::MAX_NAME_BYTES) {
         return BAD_NAME_BYTES;
     }
-    if config.buckets != 0 || config.reserved != 0 {
-        return BAD_RESERVED;
+    if config.buckets != 0 {
+        return BAD_BUCKETS;
     }
     OK
 }

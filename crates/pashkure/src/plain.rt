@@ -22,7 +22,7 @@ pub struct PlainConfig {
     pub name_bytes: u32,
     pub seed: u64,
     pub buckets: u32,
-    pub reserved: u32,
+    pub names_each: u32,
 }
 
 /// Whose wait ended: it was given the name of this number.
@@ -64,6 +64,7 @@ impl PlainConfig {
             transactions: self.transactions,
             names: self.names,
             name_bytes: self.name_bytes,
+            names_each: self.names_each,
             seed: self.seed,
         }
     }

@@ -7,7 +7,9 @@ mod ends;
 mod helpers;
 mod together;
 
-use crate::tests::alone::{each_name_is_known, many_names_and_a_long_one, one_name_by_two};
+use crate::tests::alone::{
+    each_name_is_known, is_refused_a_bulk, many_names_and_a_long_one, one_name_by_two,
+};
 use crate::tests::ends::{End, hand_over_in_portions};
 use crate::tests::together::{cross_often, cross_once, share_one_place};
 use mm_thin_locks::{ManagerConfig, ThinLocks, ThinLocksConfig};
@@ -24,6 +26,7 @@ enum Work {
     EachName,
     ManyNames,
     OneNameByTwo,
+    Bulk,
     Cross,
     CrossOnce,
     OnePlace,
@@ -43,6 +46,7 @@ impl Work {
             Work::EachName => each_name_is_known(rt, locks),
             Work::ManyNames => many_names_and_a_long_one(rt, locks),
             Work::OneNameByTwo => one_name_by_two(rt, locks),
+            Work::Bulk => is_refused_a_bulk(rt, locks),
             Work::Cross => cross_often(rt, locks, gate, number),
             Work::CrossOnce => cross_once(rt, locks, gate, number),
             Work::OnePlace => share_one_place(rt, locks, gate, number),
@@ -56,6 +60,14 @@ impl Work {
             Work::OnePlace => 1,
             Work::Portions(_) => 1_024,
             _ => 32,
+        }
+    }
+
+    /// How many of them one transaction may own.
+    fn names_each(self) -> u32 {
+        match self {
+            Work::Bulk => 1,
+            _ => 0,
         }
     }
 }
@@ -73,6 +85,7 @@ fn on_locks<R: Threads + Wait + Clock + Abort + Sync>(
             transactions: 4,
             names: work.names(),
             name_bytes: 80,
+            names_each: work.names_each(),
             seed: 7,
         },
         buckets,
@@ -137,6 +150,14 @@ fn test_threads_that_cross(rt: HostRuntime) {
 #[test]
 fn test_both_of_a_deadlock_commit(rt: HostRuntime) {
     commit_together(&rt, rt.alloc(), Work::CrossOnce, 2, 12);
+}
+
+#[test]
+fn test_a_bulk_is_refused(rt: HostRuntime) {
+    let beside = on_locks(&rt, rt.alloc(), Work::Bulk, 1, 1);
+    assert_eq!(&rt; beside, 1, "all are names of the manager");
+    let apart = on_locks(&rt, rt.alloc(), Work::Bulk, 1, 4_096);
+    assert_eq!(&rt; apart, 17, "sixteen by their words, and one in the manager");
 }
 
 #[test]

@@ -197,7 +197,8 @@ reads_transactions a (inr (inr (inr (inr (inl is))))) named = absurd (other _ a 
 reads_transactions a (inr (inr (inr (inr (inr (inl is)))))) named = absurd (other _ a _ is refl named)
 reads_transactions a (inr (inr (inr (inr (inr (inr (inl is))))))) named = absurd (other _ a _ is refl named)
 reads_transactions a (inr (inr (inr (inr (inr (inr (inr (inl is)))))))) named = absurd (other _ a _ is refl named)
-reads_transactions a (inr (inr (inr (inr (inr (inr (inr (inr x)))))))) named = absurd x
+reads_transactions a (inr (inr (inr (inr (inr (inr (inr (inr (inl is))))))))) named = absurd (other _ a _ is refl named)
+reads_transactions a (inr (inr (inr (inr (inr (inr (inr (inr (inr x))))))))) named = absurd x
 
 reads_names : ReadNumbers (codes "names") 1 16777216 locks_rules
 reads_names a (inl is) named = absurd (other _ a _ is refl named)
@@ -208,7 +209,8 @@ reads_names a (inr (inr (inr (inr (inl is))))) named = absurd (other _ a _ is re
 reads_names a (inr (inr (inr (inr (inr (inl is)))))) named = absurd (other _ a _ is refl named)
 reads_names a (inr (inr (inr (inr (inr (inr (inl is))))))) named = absurd (other _ a _ is refl named)
 reads_names a (inr (inr (inr (inr (inr (inr (inr (inl is)))))))) named = absurd (other _ a _ is refl named)
-reads_names a (inr (inr (inr (inr (inr (inr (inr (inr x)))))))) named = absurd x
+reads_names a (inr (inr (inr (inr (inr (inr (inr (inr (inl is))))))))) named = absurd (other _ a _ is refl named)
+reads_names a (inr (inr (inr (inr (inr (inr (inr (inr (inr x))))))))) named = absurd x
 
 reads_name_bytes : ReadNumbers (codes "name-bytes") 1 1024 locks_rules
 reads_name_bytes a (inl is) named = absurd (other _ a _ is refl named)
@@ -219,7 +221,8 @@ reads_name_bytes a (inr (inr (inr (inr (inl is))))) named = absurd (other _ a _ 
 reads_name_bytes a (inr (inr (inr (inr (inr (inl is)))))) named = absurd (other _ a _ is refl named)
 reads_name_bytes a (inr (inr (inr (inr (inr (inr (inl is))))))) named = absurd (other _ a _ is refl named)
 reads_name_bytes a (inr (inr (inr (inr (inr (inr (inr (inl is)))))))) named = absurd (other _ a _ is refl named)
-reads_name_bytes a (inr (inr (inr (inr (inr (inr (inr (inr x)))))))) named = absurd x
+reads_name_bytes a (inr (inr (inr (inr (inr (inr (inr (inr (inl is))))))))) named = absurd (other _ a _ is refl named)
+reads_name_bytes a (inr (inr (inr (inr (inr (inr (inr (inr (inr x))))))))) named = absurd x
 
 limits_there : (words : List Text) → level_fault (sub_at 3) [] nothing_held words false [] ≡ [] → HasLimits (rows_after locks_rules [] words)
 limits_there words none =

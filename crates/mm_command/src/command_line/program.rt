@@ -90,7 +90,7 @@ static STORM_ARGUMENTS: [Argument; 8] = [
     VERBOSE_FLAG,
 ];
 
-static LOCKS_ARGUMENTS: [Argument; 7] = [
+static LOCKS_ARGUMENTS: [Argument; 8] = [
     Argument {
         name: "transactions",
         kind: ArgumentKind::NumberOr(1, MAX_PROCESSES as u64, "65536"),
@@ -104,6 +104,11 @@ static LOCKS_ARGUMENTS: [Argument; 7] = [
     Argument {
         name: "name-bytes",
         kind: ArgumentKind::NumberOr(1, MAX_NAME_BYTES as u64, "64"),
+        help: None,
+    },
+    Argument {
+        name: "names-each",
+        kind: ArgumentKind::Number(0, MAX_NAMES as u64),
         help: None,
     },
     Argument {

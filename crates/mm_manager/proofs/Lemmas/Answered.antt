@@ -14,7 +14,6 @@ use Rattle.mm_settled.specs.declared.reply.Locked.TheVariants as locked
 use Rattle.mm_settled.proofs.Lemmas.Accepted.{accepted}
 use Rattle.mm_manager.specs.Calls.{Requests}
 use Rattle.mm_manager.specs.Permit.{first_refusal, may_ask, may_count, may_name, may_request}
-use Rattle.mm_manager.specs.Refused.{LockRefused}
 use Rattle.mm_manager.specs.Totals.{after_lock}
 use Rattle.mm_manager.specs.declared.totals.Totals.{Totals}
 use Rattle.mm_manager.specs.declared.refusal.Refusal.{Refusal}
@@ -22,7 +21,7 @@ use Rattle.mm_manager.specs.declared.refusal.Refusal.TheVariants.{NamesFull}
 use Rattle.mm_manager.specs.declared.reply.Lock.{Lock}
 use Rattle.mm_manager.specs.declared.reply.Lock.TheVariants as lock
 use Rattle.mm_manager.specs.private.Numbers.{AreNumbered, silent}
-use Rattle.mm_manager.specs.private.Requests.{may_ask_more, AnswersNew, AnswersNamed, AsksFor, Requested}
+use Rattle.mm_manager.specs.private.Requests.{LockRefusedByTable, may_ask_more, AnswersNew, AnswersNamed, AsksFor, Requested}
 use Rattle.mm_manager.specs.private.Room.{LabelsAreCounted, HasReserve}
 use Rattle.mm_manager.proofs.Lemmas.Asked.{RequestKeeps, request_keeps, request_labels}
 use Rattle.mm_manager.proofs.Lemmas.May.{asks, counted, may_ask_of}
@@ -139,17 +138,17 @@ module _ (s u : TableState) (t after : NameTable) (c : Totals) (k : Key) (name :
 
 module _ (s : TableState) (t : NameTable) (c : Totals) (k : Key) (name : List ℕ) (found refusal : Refusal)
     (why : (may_name t.name_bytes name ≡ Err found) ⊎ ((may_name t.name_bytes name ≡ Ok tt) × (found ≡ NamesFull) × IsRefusedAsFull t name)) where
-  by_name : may_ask_more s k ≡ Ok tt → refusal ≡ found → LockRefused (silent s t c) k name refusal
+  by_name : may_ask_more s k ≡ Ok tt → refusal ≡ found → LockRefusedByTable (silent s t c) k name refusal
   by_name more same = elim why [
     | inl named ↦ inl (inl (request_name s t.name_bytes k name refusal more (named ∙ ap Err (sym same))))
     | inr full ↦ inl (inr (request_ok s t.name_bytes k name more full.0, same ∙ full.1, full.2))
   ]
 
-  by_asking : (a : Result (Unit {0}) Refusal) → may_ask_more s k ≡ a → Err refusal ≡ first_refusal a (Err found) → LockRefused (silent s t c) k name refusal
+  by_asking : (a : Result (Unit {0}) Refusal) → may_ask_more s k ≡ a → Err refusal ≡ first_refusal a (Err found) → LockRefusedByTable (silent s t c) k name refusal
   by_asking (Ok tt) more is = by_name more (cc)
   by_asking (Err e) more is = inl (inl (request_err s t.name_bytes k name refusal (more ∙ sym is)))
 
-  pub number_refused : Err refusal ≡ first_refusal (may_ask_more s k) (Err found) → LockRefused (silent s t c) k name refusal
+  pub number_refused : Err refusal ≡ first_refusal (may_ask_more s k) (Err found) → LockRefusedByTable (silent s t c) k name refusal
   number_refused is = by_asking (may_ask_more s k) refl is
 
 -- ---- what stays

@@ -111,7 +111,7 @@ try_keeps s u t named k name (Err e) may made refused = same_keeps s u may (refu
 
 -- ---- by names
 
-module _ (old new : LockState) (k : Key) (name : List ℕ) (n : ℕ) (numbered : AreNumbered old.table old.names) (interned : Interns old.names name n new.names) (laws : Laws old.table) where
+module _ (old new : LockState) (k : Key) (name : List ℕ) (n : ℕ) (numbered : AreNumbered old.table old.names) (interned : Interns old.names name n new.names) (laws : Laws old.table) (each : new.names_each ≡ old.names_each) where
   module _ (granted : IsGranted old.table k n new.table) where
     fresh : (n < length old.names.names) × (new.names ≡ with_name old.names n (Some name))
     fresh = free_is_new old.table old.names numbered new.names name n granted.free interned
@@ -146,6 +146,7 @@ module _ (old new : LockState) (k : Key) (name : List ℕ) (n : ℕ) (numbered :
     pub gets : Gets old k name new
     gets = record {
       config = granted.config;
+      names_each = each;
       free = λ h owns. not_named (owns.0, owns.1);
       owns = (n, name_here, ap (λ os. slice_index_or os n None) granted.owners ∙ get_or-set_same old.table.owners n (Some k) None (omega (arith, fresh.0, numbered.as_many, laws.lawful.well_formed.sizes.owners)));
       others = λ h other differ. (
@@ -177,6 +178,7 @@ module _ (old new : LockState) (k : Key) (name : List ℕ) (n : ℕ) (numbered :
     pub queues : Queues old k name h new
     queues = record {
       config = queued.config;
+      names_each = each;
       holder = (n, known.0, queued.held);
       waits = (
         n,

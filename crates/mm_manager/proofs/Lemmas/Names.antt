@@ -32,7 +32,7 @@ name_before t u named keep q name has = name_before_by t u named keep q name (ow
 module _ (old new : LockState) (k : Key) (Loses : ℕ → Key → Type 0) (LosesName : Key → List ℕ → Type 0) (laws : Laws new.table)
     (down : HandsDown old.table k.process Loses new.granted new.table) (keep : KeepOwned old.names new.table new.names)
     (loses : (q : ℕ) (h : Key) (name : List ℕ) → name_of old.names q ≡ Some name → Loses q h → LosesName h name)
-    (back : (q : ℕ) (h : Key) (name : List ℕ) → name_of old.names q ≡ Some name → LosesName h name → Loses q h) where
+    (back : (q : ℕ) (h : Key) (name : List ℕ) → name_of old.names q ≡ Some name → LosesName h name → Loses q h) (each : new.names_each ≡ old.names_each) where
   pub passes : Passes old k LosesName new
   passes = record {
     keeps = λ h name owns kept.
@@ -64,4 +64,5 @@ module _ (old new : LockState) (k : Key) (Loses : ℕ → Key → Type 0) (Loses
     config = down.config;
     numbers = keep.numbers;
     name_bytes = keep.name_bytes;
+    names_each = each;
   }

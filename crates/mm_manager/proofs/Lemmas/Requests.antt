@@ -20,13 +20,13 @@ use Rattle.mm_settled.specs.declared.reply.Locked.TheVariants as locked
 use Rattle.mm_settled.proofs.Lemmas.Accepted.{IsAccepted, accepted}
 use Rattle.mm_manager.specs.Calls.{AdoptsNumber, Tries}
 use Rattle.mm_manager.specs.Permit.{event_limit, first_refusal, may_adopt, may_ask, may_count, may_name, may_own, may_request}
-use Rattle.mm_manager.specs.Refused.{AdoptRefused, TryRefused}
+use Rattle.mm_manager.specs.Refused.{AdoptRefused}
 use Rattle.mm_manager.specs.declared.refusal.Refusal.{Refusal}
 use Rattle.mm_manager.specs.declared.refusal.Refusal.TheVariants.{CountsFull, NamesFull}
 use Rattle.mm_manager.specs.declared.reply.TryLock.{TryLock}
 use Rattle.mm_manager.specs.declared.reply.TryLock.TheVariants as tried
 use Rattle.mm_manager.specs.private.Numbers.{AreNumbered, bare}
-use Rattle.mm_manager.specs.private.Requests.{tried_by}
+use Rattle.mm_manager.specs.private.Requests.{TryRefusedByNames, tried_by}
 use Rattle.mm_manager.proofs.Lemmas.Numbers.{some_not_none, numbered_alike, numbered_set}
 
 -- ---- what the table does
@@ -128,15 +128,15 @@ module _ (s : TableState) (t : NameTable) (numbered : AreNumbered s t) (u : Name
 
 -- ---- a try for a number that is owned
 
-same_key : (h k : Key) → (nat_eq h.process k.process && nat_eq h.generation k.generation) ≡ true → h ≡ k
+pub same_key : (h k : Key) → (nat_eq h.process k.process && nat_eq h.generation k.generation) ≡ true → h ≡ k
 same_key h k same =
     let parts = and_parts (nat_eq h.process k.process) (nat_eq h.generation k.generation) same in
     ap (λ n. record { process = n; generation = h.generation }) (eqb-true h.process k.process parts.0) ∙ ap (λ g. record { process = k.process; generation = g }) (eqb-true h.generation k.generation parts.1)
 
-key_itself : (k : Key) → (nat_eq k.process k.process && nat_eq k.generation k.generation) ≡ true
+pub key_itself : (k : Key) → (nat_eq k.process k.process && nat_eq k.generation k.generation) ≡ true
 key_itself k = rw (eq-eqb k.process k.process refl, eq-eqb k.generation k.generation refl) refl
 
-other_key : (h k : Key) → (nat_eq h.process k.process && nat_eq h.generation k.generation) ≡ false → h ≢ k
+pub other_key : (h k : Key) → (nat_eq h.process k.process && nat_eq h.generation k.generation) ≡ false → h ≢ k
 other_key h k apart same =
     let is : (nat_eq h.process k.process && nat_eq h.generation k.generation) ≡ true = subst (λ (g : Key). (nat_eq g.process k.process && nat_eq g.generation k.generation) ≡ true) (sym same) (key_itself k) in
     let never : true ≡ false = sym is ∙ apart in
@@ -171,7 +171,7 @@ name_decides s name_bytes k name may few =
     ∙ ap (λ (b : Bool). first_refusal (if b then Ok tt else Err CountsFull) (may_name name_bytes name)) (lt-ltb s.totals.accepted event_limit few)
 
 pub try_refused : (s : TableState) (t : NameTable) (k : Key) (name : List ℕ) (refusal : Refusal) → may_ask s k ≡ Ok tt → s.totals.accepted < event_limit
-    → (may_name t.name_bytes name ≡ Err refusal) ⊎ ((may_name t.name_bytes name ≡ Ok tt) × (refusal ≡ NamesFull) × IsRefusedAsFull t name) → TryRefused (bare s t) k name refusal
+    → (may_name t.name_bytes name ≡ Err refusal) ⊎ ((may_name t.name_bytes name ≡ Ok tt) × (refusal ≡ NamesFull) × IsRefusedAsFull t name) → TryRefusedByNames (bare s t) k name refusal
 try_refused s t k name refusal may few (inl out) = inl (name_decides s t.name_bytes k name may few ∙ out)
 try_refused s t k name refusal may few (inr full) = inr (name_decides s t.name_bytes k name may few ∙ full.0, full.1, full.2)
 

@@ -17,9 +17,9 @@ pub record IsSound (t : NamedTable) : Type 0 where
   pub numbered : AreNumbered t.table.table t.names
   pub left : HasReserve t.table.table
 
--- what a contract sees of a table with names, whether its list tells of the last call, and what was counted
-abbrev pub seen : NamedTable → Bool → Totals → LockState
-seen t tells c = record { table = t.table.table; names = t.names; granted = if tells then t.table.granted else []; totals = c }
+-- what a contract sees of a table with names, whether its list tells of the last call, what was counted, and how many names a transaction may own
+abbrev pub seen : NamedTable → Bool → Totals → ℕ → LockState
+seen t tells c each = record { table = t.table.table; names = t.names; granted = if tells then t.table.granted else []; totals = c; names_each = each }
 
 -- a refused call leaves table and names as they were
 pub record IsUntouched (old new : NamedTable) : Type 0 where

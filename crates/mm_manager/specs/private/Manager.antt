@@ -8,7 +8,7 @@ use Rattle.mm_manager.specs.private.Room.{LabelsAreCounted}
 
 -- what a contract sees
 abbrev pub state_of : Inside → LockState
-state_of m = seen m.named m.tells m.totals
+state_of m = seen m.named m.tells m.totals m.names_each
 
 -- its table and names are sound, the counts together are no more than the events, and each request that met another owner took two labels at the most
 pub record IsManager (m : Inside) : Type 0 where

@@ -24,7 +24,7 @@ left_by (To k) t n = t
 
 -- a manager of these, in which nothing is told
 abbrev pub silent : TableState → NameTable → Totals → LockState
-silent s t c = record { table = s; names = t; granted = []; totals = c }
+silent s t c = record { table = s; names = t; granted = []; totals = c; names_each = 0 }
 
 -- and nothing is counted
 abbrev pub bare : TableState → NameTable → LockState

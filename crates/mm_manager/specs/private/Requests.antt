@@ -1,15 +1,16 @@
 -- How a request is answered by number, and a try for a name.
-use Rattle.std.specs.Prelude.{◌≡◌, ◌≢◌, ◌⊎◌, ◌&&◌, ℕ, List, true, false, Some, None, Result, Ok, Err, if◌then◌else◌, nat_eq}
+use Rattle.std.specs.Prelude.{◌≡◌, ◌≢◌, ◌⊎◌, ◌&&◌, ℕ, List, true, false, Some, None, Result, Ok, Err, IfErr, OnOk, if◌then◌else◌, nat_eq}
 use Rattle.mm_arena.specs.declared.key.Key.{Key}
-use Rattle.mm_names.specs.Names.{NameTable, with_name}
+use Rattle.mm_names.specs.Names.{NameTable, IsRefusedAsFull, with_name}
 use Rattle.mm_rules.specs.TableState.{TableState, owner_of}
 use Rattle.mm_settled.specs.Calls.{Locks}
 use Rattle.mm_settled.specs.declared.reply.Locked.TheVariants as locked
 use Rattle.mm_manager.specs.Calls.{Requests}
 use Rattle.mm_manager.specs.Permit.{first_refusal, may_ask, may_count, may_request, may_wait}
-use Rattle.mm_manager.specs.Refused.{LockRefused}
+use Rattle.mm_manager.specs.LockState.{LockState, Owns, untold}
+use Rattle.mm_manager.specs.Refused.{TryRefused}
 use Rattle.mm_manager.specs.declared.refusal.Refusal.{Refusal}
-use Rattle.mm_manager.specs.declared.refusal.Refusal.TheVariants.{LabelsFull}
+use Rattle.mm_manager.specs.declared.refusal.Refusal.TheVariants.{LabelsFull, NamesFull}
 use Rattle.mm_manager.specs.declared.reply.Lock.{Lock}
 use Rattle.mm_manager.specs.declared.reply.Lock.TheVariants as lock
 use Rattle.mm_manager.specs.declared.reply.TryLock.{TryLock}
@@ -40,11 +41,30 @@ AnswersNamed s c k n (Err refusal) u =
     (u ≡ s)
     × ((may_ask_more s k ≡ Err refusal) ⊎ ((may_ask_more s k ≡ Ok tt) × (refusal ≡ LabelsFull) × (may_wait s c ≡ false) × ((h : Key) × (h ≢ k) × (owner_of s n ≡ Some h))))
 
+-- what the names refuse a try for, whatever its transaction owns: as `TryRefused`
+abbrev pub TryRefusedByNames : LockState → Key → List ℕ → Refusal → Type 0
+TryRefusedByNames m k name refusal =
+    (may_request m.table m.names.name_bytes k name ≡ Err refusal)
+    ⊎ ((may_request m.table m.names.name_bytes k name ≡ Ok tt) × (refusal ≡ NamesFull) × IsRefusedAsFull m.names name)
+
+-- what table and names refuse a request for: as `LockRefused`
+abbrev pub LockRefusedByTable : LockState → Key → List ℕ → Refusal → Type 0
+LockRefusedByTable m k name refusal =
+    TryRefusedByNames m k name refusal
+    ⊎ ((may_request m.table m.names.name_bytes k name ≡ Ok tt) × (refusal ≡ LabelsFull) × (may_wait m.table m.totals ≡ false) × ((h : Key) × (h ≢ k) × Owns m h name))
+
 -- a request for a name, by what its reply says
 abbrev pub Requested : TableState → NameTable → Totals → Key → List ℕ → Result Lock Refusal → TableState → NameTable → Type 0
 Requested s t c k name (Ok answer) u named = (may_request s t.name_bytes k name ≡ Ok tt) × Requests s t c k name answer u named
-Requested s t c k name (Err refusal) u named = LockRefused (silent s t c) k name refusal × (u ≡ s) × (named ≡ t)
+Requested s t c k name (Err refusal) u named = LockRefusedByTable (silent s t c) k name refusal × (u ≡ s) × (named ≡ t)
 
 -- what a try is told of a name that h owns
 abbrev pub tried_by : Key → Key → TryLock
 tried_by h k = if nat_eq h.process k.process && nat_eq h.generation k.generation then Held else Busy h
+
+-- k, which owns as many names as a transaction may, asks for a name: it owns that, or is refused, and nothing changes
+pub record Holds (old : LockState) (k : Key) (name : List ℕ) (answer : Result (Unit {0}) Refusal) (new : LockState) : Type 0 where
+  pub may : OnOk answer (may_request old.table old.names.name_bytes k name ≡ Ok tt)
+  pub owns : OnOk answer (Owns old k name)
+  pub refused : IfErr answer (λ refusal. TryRefused old k name refusal)
+  pub same : new ≡ untold old

@@ -54,6 +54,7 @@ impl Work {
 struct Case {
     transactions: u32,
     names: u32,
+    names_each: u32,
     threads: usize,
     work: Work,
     /// How many are to have begun, been committed, been aborted, and been told of a deadlock when the threads have ended.
@@ -92,6 +93,7 @@ fn on_locks<R: Threads + Wait + Clock + Abort + Sync>(rt: &R, alloc: Global, cas
         transactions: case.transactions,
         names: case.names,
         name_bytes: 8,
+        names_each: case.names_each,
         seed: 11,
     };
     let locks = Locks::open(alloc, config).expect(rt, "memory");
@@ -103,12 +105,13 @@ fn on_locks<R: Threads + Wait + Clock + Abort + Sync>(rt: &R, alloc: Global, cas
 const TWO: Case = Case {
     transactions: 2,
     names: 2,
+    names_each: 0,
     threads: 2,
     work: Work::Patience,
     totals: [0; 4],
 };
 
-/// Lets this many threads make their steps.
+/// Lets this many threads make their steps. A transaction may own five of eight names.
 pub fn on_rows<R: Threads + Wait + Clock + Abort + Sync>(
     rt: &R,
     alloc: Global,
@@ -119,6 +122,7 @@ pub fn on_rows<R: Threads + Wait + Clock + Abort + Sync>(
     let case = Case {
         transactions: 3,
         names: 8,
+        names_each: 5,
         threads,
         work: Work::Rows(rows),
         totals,
@@ -132,6 +136,7 @@ fn a_commit_wakes_all(rt: HostRuntime) {
     let case = Case {
         transactions: 13,
         names: 12,
+        names_each: 0,
         threads: 13,
         work: Work::Wakes,
         totals: [13, 13, 0, 0],

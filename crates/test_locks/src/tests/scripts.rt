@@ -15,6 +15,8 @@ const TIMED_OUT: Answer = Err(LockError::TimedOut);
 
 const TOO_LONG: Answer = Err(LockError::NameTooLong);
 
+const TOO_MANY: Answer = Err(LockError::TooManyNames);
+
 const DEADLOCK: Answer = Err(LockError::Deadlock);
 
 /// A name that another one owns is not had by a try, nor in time. Whoever gave up goes on, and has it once it is given back.
@@ -68,6 +70,30 @@ static STOPS_AT_A_REFUSAL: [Row; 11] = [
 #[test]
 fn stops_at_a_refusal(rt: HostRuntime) {
     on_rows(&rt, rt.alloc(), 1, &STOPS_AT_A_REFUSAL, [7, 1, 6, 0]);
+}
+
+/// Who owns as many names as one may is refused a further one, keeps those, and goes on once it has given one back. Another one is given the
+/// name meanwhile.
+static REFUSES_A_BULK: [Row; 8] = [
+    Row(0, Step::Begin),
+    Row(
+        0,
+        Step::Call(
+            Call::LockAll(&[b"a", b"b", b"c", b"d", b"e", b"f"]),
+            TOO_MANY,
+        ),
+    ),
+    Row(0, Step::AreBusy(&[b"a", b"b", b"c", b"d", b"e"])),
+    Row(0, Step::Call(Call::TryLock(b"f"), TOO_MANY)),
+    Row(0, Step::AreFree(&[b"f"])),
+    Row(0, Step::Call(Call::Unlock(b"a"), OWNS)),
+    Row(0, Step::Call(Call::Lock(b"f"), OWNS)),
+    Row(0, Step::Commit),
+];
+
+#[test]
+fn refuses_a_bulk(rt: HostRuntime) {
+    on_rows(&rt, rt.alloc(), 1, &REFUSES_A_BULK, [3, 1, 2, 0]);
 }
 
 /// One owns `b` and `d` until the other one waits for `b`, after two begins, three locks and a wait of two events. It then hands over one

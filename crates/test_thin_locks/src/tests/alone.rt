@@ -72,6 +72,25 @@ pub fn many_names_and_a_long_one<R: Wait + Clock + Abort>(rt: &R, locks: &ThinLo
     2
 }
 
+/// How many names a transaction may own: it is refused the others, which another one is given meanwhile.
+pub fn is_refused_a_bulk<R: Wait + Clock + Abort>(rt: &R, locks: &ThinLocks) -> u64 {
+    let mut session = session(rt, locks);
+    let mut transaction = session.begin();
+    let mut owned = 0u64;
+    // All but `1` and `2`, which has one hash with `12`.
+    for name in &NAMES[2..] {
+        match is_done(transaction.lock(name)) {
+            Err(LockError::TooManyNames) => same(rt, told(rt, locks, name), Ok(true)),
+            answer => {
+                same(rt, answer, Ok(true));
+                owned = owned.wrapping_add(1);
+            }
+        }
+    }
+    same(rt, is_done(transaction.commit()), Ok(true));
+    owned
+}
+
 /// What a second transaction is told of a name.
 fn told<R: Wait + Clock + Abort>(rt: &R, locks: &ThinLocks, name: &[u8]) -> Answer {
     let mut session = session(rt, locks);

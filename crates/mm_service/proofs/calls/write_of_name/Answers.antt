@@ -36,7 +36,7 @@ returns-in-Lock-clause-replies g c =
     let effect = c.lock_effect.result in
     let written = c.write_lock-outcome.ensures.written in
     let R = λ (r : NameRequest). RepliesName r c.args.key c.args.name.now c.args.manager.now text effect m in
-    let made : Locked c.args.manager.now c.args.key c.args.name.now answer m = record { locks = did.locks; may = did.may; step = did.step; granted = did.granted; totals = did.totals } in
+    let made : Locked c.args.manager.now c.args.key c.args.name.now answer m = record { locks = did.locks; may = did.may; room = did.room; step = did.step; granted = did.granted; totals = did.totals } in
     let quiet = subst EndsNobody (sym c.lock_effect.ensures) (lock_ends_nobody c.args.key answer) in
     (text, effect, written.0, subst R (sym c.in-Lock.is) (answer, made, refl, c.lock_effect.ensures), written.1, rw c.and.ensures (came_to _ effect _ quiet written.2))
 
@@ -47,7 +47,7 @@ returns-in-Try-clause-replies g c =
     let did = c.try_lock.ensures in
     let items = c.print_try.new.output.items in
     let R = λ (r : NameRequest). RepliesName r c.args.key c.args.name.now c.args.manager.now text Nothing c.try_lock.new.self in
-    let made : Tried c.args.manager.now c.args.key c.args.name.now answer c.try_lock.new.self = record { tries = did.tries; may = did.may; step = did.step; granted = did.granted; totals = did.totals } in
+    let made : Tried c.args.manager.now c.args.key c.args.name.now answer c.try_lock.new.self = record { tries = did.tries; may = did.may; room = did.room; step = did.step; granted = did.granted; totals = did.totals } in
     (text, Nothing, items, subst R (sym c.in-Try.is) (answer, made, refl, refl), writes_printed _ c.args.output.now.items text items c.print_try.ensures.added, (refl, refl))
 
 pub returns-in-Unlock-clause-replies : goal.returns-in-Unlock-clause-replies

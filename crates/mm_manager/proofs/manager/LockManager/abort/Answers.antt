@@ -11,8 +11,8 @@ pub returns-clause-aborts : goal.returns-clause-aborts
 returns-clause-aborts c =
     let i = c.self.inside in
     let done = c.abort-answer in
-    subst (λ (m : LockState). Aborts m c.args.key done.result (seen done.new.self c.is_ok-self-inside.result c.count_abort.new.self)) c.self.view_is
-    (aborts i.named done.new.self i.tells i.totals c.count_abort.new.self c.args.key c.is_at_rest.ensures.laws done.result c.is_ok-self-inside.result c.is_ok-self-inside.ensures.value c.count_abort.ensures done.ensures.ends done.ensures.untouched done.ensures.refused)
+    subst (λ (m : LockState). Aborts m c.args.key done.result (seen done.new.self c.is_ok-self-inside.result c.count_abort.new.self i.names_each)) c.self.view_is
+    (aborts i.named done.new.self i.tells i.totals c.count_abort.new.self i.names_each c.args.key c.is_at_rest.ensures.laws done.result c.is_ok-self-inside.result c.is_ok-self-inside.ensures.value c.count_abort.ensures done.ensures.ends done.ensures.untouched done.ensures.refused)
 
 pub count_abort-requires : goal.count_abort-requires
 count_abort-requires c =

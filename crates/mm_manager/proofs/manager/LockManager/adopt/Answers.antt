@@ -11,10 +11,10 @@ pub returns-clause-adopts : goal.returns-clause-adopts
 returns-clause-adopts c =
     let i = c.self.inside in
     let done = c.adopt.ensures in
-    let old = seen i.named i.tells i.totals in
-    let new = seen c.adopt.new.self false i.totals in
+    let old = seen i.named i.tells i.totals i.names_each in
+    let new = seen c.adopt.new.self false i.totals i.names_each in
     subst (λ (m : LockState). AdoptsName m c.args.key c.args.name.now c.adopt.result new) c.self.view_is
-    (adoption_takes old new c.args.key c.args.name.now c.adopt.result c.self.invariant.sound.numbered c.is_at_rest.ensures.laws done.adopted done.refused done.table done.names refl refl)
+    (adoption_takes old new c.args.key c.args.name.now c.adopt.result c.self.invariant.sound.numbered c.is_at_rest.ensures.laws done.adopted done.refused done.table done.names refl refl refl)
 
 pub invariant_of-self : goal.invariant_of-self
 invariant_of-self c =

@@ -40,4 +40,4 @@ pub returns-clause-slot : goal.returns-clause-slot
 returns-clause-slot c =
     let i = c.self.inside in
     let done = c.begin-answer in
-    own_slot i.named.table.table (seen done.new.self false c.count_begin.new.self) done.result c.is_at_rest.ensures.laws c.is_at_rest-2.ensures.laws done.ensures.begun
+    own_slot i.named.table.table (seen done.new.self false c.count_begin.new.self i.names_each) done.result c.is_at_rest.ensures.laws c.is_at_rest-2.ensures.laws done.ensures.begun

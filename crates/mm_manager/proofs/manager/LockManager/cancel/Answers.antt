@@ -11,8 +11,8 @@ pub returns-clause-cancels : goal.returns-clause-cancels
 returns-clause-cancels c =
     let i = c.self.inside in
     let done = c.cancel-answer in
-    subst (λ (m : LockState). Cancels m c.args.key done.result (seen done.new.self false c.count_cancel.new.self)) c.self.view_is
-    (cancels i.named done.new.self i.tells i.totals c.count_cancel.new.self c.args.key done.result c.count_cancel.ensures done.ensures.made done.ensures.names done.ensures.table done.ensures.refused)
+    subst (λ (m : LockState). Cancels m c.args.key done.result (seen done.new.self false c.count_cancel.new.self i.names_each)) c.self.view_is
+    (cancels i.named done.new.self i.tells i.totals c.count_cancel.new.self i.names_each c.args.key done.result c.count_cancel.ensures done.ensures.made done.ensures.names done.ensures.table done.ensures.refused)
 
 pub count_cancel-requires : goal.count_cancel-requires
 count_cancel-requires c =

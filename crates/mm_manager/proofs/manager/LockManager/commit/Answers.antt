@@ -11,8 +11,8 @@ pub returns-clause-commits : goal.returns-clause-commits
 returns-clause-commits c =
     let i = c.self.inside in
     let done = c.commit-answer in
-    subst (λ (m : LockState). Commits m c.args.key done.result (seen done.new.self c.is_ok-self-inside.result c.count_commit.new.self)) c.self.view_is
-    (commits i.named done.new.self i.tells i.totals c.count_commit.new.self c.args.key c.is_at_rest.ensures.laws done.result c.is_ok-self-inside.result c.is_ok-self-inside.ensures.value c.count_commit.ensures done.ensures.handed done.ensures.untouched done.ensures.refused)
+    subst (λ (m : LockState). Commits m c.args.key done.result (seen done.new.self c.is_ok-self-inside.result c.count_commit.new.self i.names_each)) c.self.view_is
+    (commits i.named done.new.self i.tells i.totals c.count_commit.new.self i.names_each c.args.key c.is_at_rest.ensures.laws done.result c.is_ok-self-inside.result c.is_ok-self-inside.ensures.value c.count_commit.ensures done.ensures.handed done.ensures.untouched done.ensures.refused)
 
 pub count_commit-requires : goal.count_commit-requires
 count_commit-requires c =

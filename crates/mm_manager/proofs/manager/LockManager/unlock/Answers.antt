@@ -11,8 +11,8 @@ pub returns-clause-unlocks : goal.returns-clause-unlocks
 returns-clause-unlocks c =
     let i = c.self.inside in
     let done = c.unlock-answer in
-    subst (λ (m : LockState). UnlocksName m c.args.key c.args.name.now done.result (seen done.new.self c.is_ok-self-inside.result i.totals)) c.self.view_is
-    (unlocks i.named done.new.self i.tells i.totals i.totals c.args.key c.is_at_rest.ensures.laws c.args.name.now done.result c.is_ok-self-inside.result c.is_ok-self-inside.ensures.value refl done.ensures.distinct done.ensures.handed done.ensures.untouched done.ensures.refused)
+    subst (λ (m : LockState). UnlocksName m c.args.key c.args.name.now done.result (seen done.new.self c.is_ok-self-inside.result i.totals i.names_each)) c.self.view_is
+    (unlocks i.named done.new.self i.tells i.totals i.totals i.names_each c.args.key c.is_at_rest.ensures.laws c.args.name.now done.result c.is_ok-self-inside.result c.is_ok-self-inside.ensures.value refl done.ensures.distinct done.ensures.handed done.ensures.untouched done.ensures.refused)
 
 pub invariant_of-self : goal.invariant_of-self
 invariant_of-self c =

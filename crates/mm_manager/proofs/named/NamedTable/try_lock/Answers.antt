@@ -2,7 +2,7 @@ use Rattle.std.proofs.Common.{◌≡◌, Ok, inl, refl, sym, ap, ◌∙◌}
 use Rattle.mm_rules.specs.TableState.{TableState}
 use Rattle.mm_manager.specs.Permit.{first_refusal, may_ask, may_count, may_name}
 use Rattle.mm_manager.specs.Calls.{Tries}
-use Rattle.mm_manager.specs.Refused.{TryRefused}
+use Rattle.mm_manager.specs.private.Requests.{TryRefusedByNames}
 use Rattle.mm_manager.specs.declared.refusal.Refusal.{Refusal}
 use Rattle.mm_manager.specs.declared.reply.TryLock.{TryLock}
 use Rattle.mm_manager.specs.private.Numbers.{bare}
@@ -28,7 +28,7 @@ pub returns-in_err-may_ask-clause-refused : goal.returns-in_err-may_ask-clause-r
 returns-in_err-may_ask-clause-refused c =
     let s = c.args.self.now.table.table in
     let t = c.args.self.now.names in
-    if_refused c.from_residual.result c.in_err-may_ask.field-0.0 (λ (refusal : Refusal). TryRefused (bare s t) c.args.key c.args.name.now refusal) c.from_residual.ensures
+    if_refused c.from_residual.result c.in_err-may_ask.field-0.0 (λ (refusal : Refusal). TryRefusedByNames (bare s t) c.args.key c.args.name.now refusal) c.from_residual.ensures
     (inl (ap (λ a. first_refusal a (first_refusal (may_count s) (may_name t.name_bytes c.args.name.now))) (ap (λ (v : TableState). may_ask v c.args.key) (sym c.table.ensures) ∙ sym c.in_err-may_ask.ensures)))
 
 pub returns-in_err-may_count-clause-refused : goal.returns-in_err-may_count-clause-refused
@@ -36,7 +36,7 @@ returns-in_err-may_count-clause-refused c =
     let s = c.args.self.now.table.table in
     let t = c.args.self.now.names in
     let asked : may_ask s c.args.key ≡ Ok tt = ap (λ (v : TableState). may_ask v c.args.key) (sym c.table.ensures) ∙ sym c.in_ok-may_ask.ensures in
-    if_refused c.from_residual-in_err-may_count.result c.in_err-may_count.field-0.0 (λ (refusal : Refusal). TryRefused (bare s t) c.args.key c.args.name.now refusal) c.from_residual-in_err-may_count.ensures
+    if_refused c.from_residual-in_err-may_count.result c.in_err-may_count.field-0.0 (λ (refusal : Refusal). TryRefusedByNames (bare s t) c.args.key c.args.name.now refusal) c.from_residual-in_err-may_count.ensures
     (inl (ap (λ a. first_refusal a (first_refusal (may_count s) (may_name t.name_bytes c.args.name.now))) asked
     ∙ ap (λ a. first_refusal a (may_name t.name_bytes c.args.name.now)) (ap may_count (sym c.table-2.ensures) ∙ sym c.in_err-may_count.ensures)))
 

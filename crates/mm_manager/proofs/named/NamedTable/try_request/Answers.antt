@@ -5,7 +5,7 @@ use Rattle.mm_settled.specs.Calls.{Locks}
 use Rattle.mm_settled.specs.declared.reply.Locked.TheVariants as locked
 use Rattle.mm_manager.specs.Calls.{Tries}
 use Rattle.mm_manager.specs.private.Numbers.{AreNumbered, bare}
-use Rattle.mm_manager.specs.Refused.{TryRefused}
+use Rattle.mm_manager.specs.private.Requests.{TryRefusedByNames}
 use Rattle.mm_manager.specs.declared.refusal.Refusal.{Refusal}
 use Rattle.mm_manager.specs.declared.reply.TryLock.{TryLock}
 use Rattle.mm_manager.proofs.Lemmas.Numbers.{some_not_none}
@@ -18,7 +18,7 @@ pub returns-in_err-entry-clause-refused : goal.returns-in_err-entry-clause-refus
 returns-in_err-entry-clause-refused c =
     let s = c.args.self.now.table.table in
     let t = c.args.self.now.names in
-    if_refused c.from_residual.result c.in_err-entry.field-0.0 (λ (refusal : Refusal). TryRefused (bare s t) c.args.key c.args.name.now refusal) c.from_residual.ensures
+    if_refused c.from_residual.result c.in_err-entry.field-0.0 (λ (refusal : Refusal). TryRefusedByNames (bare s t) c.args.key c.args.name.now refusal) c.from_residual.ensures
     (try_refused s t c.args.key c.args.name.now c.in_err-entry.field-0.0 c.requires.may c.requires.counted c.in_err-entry.ensures.refused)
 
 -- ---- somebody owns it

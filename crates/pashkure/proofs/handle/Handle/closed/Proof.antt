@@ -22,7 +22,7 @@ use Rattle.pashkure.proofs.handle.Handle.closed.Code as code
 
 -- what a closed handle says of a manager means nothing
 abbrev nobody : LockState
-nobody = opening_state (record { transactions = 0; names = 0; name_bytes = 0; seed = 0 })
+nobody = opening_state (record { transactions = 0; names = 0; name_bytes = 0; names_each = 0; seed = 0 })
 
 pub closed_spec : {M : Type 1} → statement M
 closed_spec 𝓤 𝓛 𝓜 𝓡 wired =
