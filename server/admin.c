@@ -43,23 +43,38 @@ static void gives_clients(struct front *front, struct client *admin)
     }
 }
 
+/* Takes whose request is the oldest that has no reply. There has to be one. */
+static struct asker takes_asker(struct front *front)
+{
+    struct asker asker = front->askers[front->first_asker];
+    front->first_asker = (front->first_asker + 1) % RING;
+    front->asker_count--;
+    front->last_asked = NULL;
+    return asker;
+}
+
+bool admin_asks_again(struct front *front, const struct client *client)
+{
+    if (front->asker_count == 0)
+        return false;
+    struct asker asker = takes_asker(front);
+    return asker.kind == REQUEST && client == &front->admins[asker.place];
+}
+
 /* Takes a reply: it is whose request is the oldest that has none. */
 static bool takes_reply(struct front *front, const char *line, size_t length)
 {
     if (front->asker_count == 0)
         return false;
-    struct asker asker = front->askers[front->first_asker];
-    front->first_asker = (front->first_asker + 1) % RING;
-    front->asker_count--;
-    front->last_asked = NULL;
+    struct asker asker = takes_asker(front);
     if (asker.kind == GREETING) {
         turns_begin(front);
         front->is_open = true;
         return length > 7 && memcmp(line, "totals ", 7) == 0;
     }
     struct client *admin = &front->admins[asker.place];
-    admin->unanswered--;
-    turns_answered(front, admin, false);
+    if (!lines_answered(front, admin))
+        return false;
     if (admin->file < 0)
         return true; /* it has left */
     front->last_asked = admin;

@@ -37,7 +37,7 @@ static struct client *free_client(struct front *front)
 static struct client *free_admin(struct front *front)
 {
     for (unsigned place = 0; place < ADMINS; place++)
-        if (front->admins[place].file < 0 && front->admins[place].unanswered == 0)
+        if (front->admins[place].file < 0 && front->admins[place].unanswered == 0 && front->admins[place].again_length == 0)
             return &front->admins[place];
     return NULL;
 }
@@ -134,6 +134,7 @@ static void hangs_up(struct front *front, struct client *client)
     if (client->number == 0 || client->is_leaving)
         return;
     client->is_leaving = client->is_tried = true;
+    client->again_length = 0; /* the hang-up ends what is left of the transaction */
     front->leaving++;
     turns_add(front, client);
 }

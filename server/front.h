@@ -15,6 +15,7 @@ enum {
     UNREAD = 65536,     /* bytes that a client may leave unread before no more of it is read */
     ADMINS = 16,        /* operators that can be connected at once */
     SPARE = 32,         /* descriptors beside those of clients */
+    END_BYTES = 24,     /* room for `commit`, a space and a key of 16 bytes */
 };
 
 struct client {
@@ -31,11 +32,15 @@ struct client {
     bool is_leaving;     /* it hung up, and the program has not answered so yet */
     bool is_hanging_up;  /* `- C` is in the program */
     bool is_stalled;     /* it has too much unanswered or unread, so it is read no further for now */
-    bool is_alone;       /* its request in the program has a long reply, so no other is passed on beside it */
+    bool is_alone;       /* no other line is passed on before its last one is answered: that has a long reply, or ends a transaction */
     bool is_answered;    /* the program has answered a line of it in this round */
     bool is_tried;       /* its lines take long, or nothing is known of them yet: so one of all such clients is in the program at a time */
     int64_t tried_until; /* by the program's work, in microseconds */
-    struct link turn;    /* among those that wait for their turn */
+    const char *ends;    /* the word of its last line that ends a transaction */
+    char again[END_BYTES];
+    unsigned again_length; /* of the line that it ends by, which is to be passed on again; 0: there is none */
+    struct link end;       /* among those that have such a line in the program */
+    struct link turn;      /* among those that wait for their turn */
     struct link touched;
     struct link large; /* among those that have more than UNREAD bytes unread, or had */
     pid_t process;
@@ -83,6 +88,7 @@ struct front {
     unsigned first_asker, asker_count;
     struct client *last_asked; /* the operator that was sent the last reply, if it is still there */
     struct turns turns;
+    struct queue ends;    /* with a line in the program that ends a transaction, in the order of these */
     struct queue touched; /* with lines to be sent, or a reply less to come */
     int events;           /* of epoll */
     int signals;
@@ -108,6 +114,8 @@ void client_closes_if_done(struct front *front, struct client *client);
 /* lines.c: from a client to the program. */
 void lines_turn(struct front *front, struct client *client);
 bool lines_may_take(const struct front *front, const struct client *client);
+bool lines_answered(struct front *front, struct client *client);             /* the oldest line of it that is not. False: another one had to be */
+bool lines_again(struct front *front, const char *key, const char *key_end); /* `* more K`: whose line it is has to pass it on again */
 bool lines_greet(struct front *front);
 
 /* turns.c: who is next. */
@@ -130,6 +138,7 @@ void client_touch(struct front *front, struct client *client);
 
 /* admin.c: connection 0. */
 void admin_asks(struct front *front, struct client *client, bool is_clients);
+bool admin_asks_again(struct front *front, const struct client *client); /* whose request has to be passed on again. False: another one is asked */
 bool admin_take(struct front *front, const char *line, size_t length);
 
 /* watch.c: what epoll looks for. */

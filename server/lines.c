@@ -9,6 +9,7 @@ enum { SIZE = 4096 };
 
 static const char malformed[] = "malformed";
 static const char clients[] = "clients";
+static const char holds[] = "holds", commit[] = "commit ", abort_[] = "abort ";
 
 /* Says how many requests of a client may be in the program. */
 static unsigned share_of(const struct client *client)
@@ -40,24 +41,29 @@ static bool asks_for_clients(const char *line, size_t length)
     return length >= wanted && memcmp(line, clients, wanted) == 0 && (length == wanted || (length == wanted + 1 && line[wanted] == '\r'));
 }
 
-/* Says whether a line asks for the names of a transaction: the reply may have a megabyte. */
-static bool has_long_reply(const char *line, size_t length)
+/* Finds the word of these that a line begins with. Returns NULL if there is none. */
+static const char *word_of(const char *line, size_t length)
 {
-    static const char word[] = "holds";
+    static const char *const words[] = {holds, commit, abort_};
     const char *end = line + length;
     while (line < end && *line == ' ')
         line++;
-    return (size_t)(end - line) >= strlen(word) && memcmp(line, word, strlen(word)) == 0;
+    for (int which = 0; which < 3; which++)
+        if ((size_t)(end - line) >= strlen(words[which]) && memcmp(line, words[which], strlen(words[which])) == 0)
+            return words[which];
+    return NULL;
 }
 
-/* Says whether a line waits until the client has no request in the program: a request with a long reply, or any line after one. So what a
-   client does not read is little more than one such reply. */
+/* Says whether a line waits until the client has no request in the program: one that asks for the names of a transaction, of which the reply may
+   have a megabyte, or any line behind one, so that what a client does not read is little more than one such reply; and any line behind one that
+   ends a transaction, since that may have to be passed on again. */
 static bool has_to_wait(struct client *client, const char *line, size_t length)
 {
-    bool is_alone = has_long_reply(line, length);
-    if (client->unanswered > 0 && (is_alone || client->is_alone))
+    const char *word = word_of(line, length);
+    if (client->unanswered > 0 && (word == holds || client->is_alone))
         return true;
-    client->is_alone = is_alone;
+    client->is_alone = word != NULL;
+    client->ends = word == holds ? NULL : word;
     return false;
 }
 
@@ -69,6 +75,8 @@ static void passes_line(struct front *front, struct client *client, const char *
     bool is_clients = client->number == 0 && !is_long && asks_for_clients(line, length);
     if (client->number == 0)
         admin_asks(front, client, is_clients);
+    if (client->ends != NULL)
+        queue_add(&front->ends, &client->end);
     if (is_clients)
         passes(front, client, "totals", strlen("totals")); /* its reply has the turn of this one */
     else
@@ -83,6 +91,45 @@ static void passes_hang_up(struct front *front, struct client *client)
     turns_passed(front, client);
     if (!buffer_add(waiting, "- ", 2) || !buffer_add(waiting, client->head, client->head_length - 1) || !buffer_add(waiting, "\n", 1))
         front->end = BY_MEMORY;
+}
+
+/* Passes on again by what a client ends a transaction. The client has waited for its turn, as with a line that it sends. */
+static void passes_again(struct front *front, struct client *client)
+{
+    if (client->number == 0)
+        admin_asks(front, client, false);
+    queue_add(&front->ends, &client->end);
+    passes(front, client, client->again, client->again_length);
+    client->again_length = 0;
+    client->is_stalled = client->file >= 0 && !client->is_over;
+    watch_reads(front, client, false);
+}
+
+bool lines_answered(struct front *front, struct client *client)
+{
+    client->unanswered--;
+    turns_answered(front, client, false);
+    return client->unanswered > 0 || !client->end.is_in || queue_take(&front->ends) == &client->end;
+}
+
+bool lines_again(struct front *front, const char *key, const char *key_end)
+{
+    size_t length = (size_t)(key_end - key);
+    if (front->ends.first == NULL)
+        return false;
+    struct client *client = THING_OF(front->ends.first, struct client, end);
+    size_t word = strlen(client->ends);
+    if (client->unanswered != 1 || word + length > sizeof client->again || (client->number == 0 && !admin_asks_again(front, client)))
+        return false;
+    lines_answered(front, client);
+    client_touch(front, client);
+    if (client->is_leaving)
+        return true; /* its hang-up ends what is left of the transaction */
+    memcpy(client->again, client->ends, word);
+    memcpy(client->again + word, key, length);
+    client->again_length = (unsigned)(word + length);
+    turns_add(front, client);
+    return true;
 }
 
 bool lines_greet(struct front *front)
@@ -123,6 +170,10 @@ void lines_turn(struct front *front, struct client *client)
 {
     if (client->is_leaving && !client->is_hanging_up)
         passes_hang_up(front, client);
+    if (client->again_length > 0) {
+        passes_again(front, client);
+        return;
+    }
     if (!lines_may_take(front, client)) {
         client->is_stalled = client->file >= 0 && !client->is_over;
         return;

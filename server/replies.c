@@ -63,12 +63,12 @@ void replies_bound(struct front *front)
     }
 }
 
-/* Reads the number at the front of a line, without zeros before it. Returns what stands behind it, or NULL. */
-static const char *number_of(const char *line, const char *end, unsigned *number)
+/* Reads the number at the front of a line, of so many digits at most, without zeros before it. Returns what stands behind it, or NULL. */
+static const char *number_of(const char *line, const char *end, int digits, unsigned *number)
 {
     const char *place = line;
     *number = 0;
-    while (place < end && place < line + 5 && *place >= '0' && *place <= '9')
+    while (place < end && place < line + digits && *place >= '0' && *place <= '9')
         *number = *number * 10 + (unsigned)(*place++ - '0');
     return place == line || (*line == '0' && place > line + 1) ? NULL : place;
 }
@@ -86,10 +86,8 @@ static bool gives(struct front *front, struct client *client, const char *line, 
     bool is_event = length >= 2 && line[0] == '*' && line[1] == ' ';
     if (!is_event && client->unanswered == 0)
         return false;
-    if (!is_event) {
-        client->unanswered--;
-        turns_answered(front, client, false);
-    }
+    if (!is_event && !lines_answered(front, client))
+        return false;
     if (client->file >= 0)
         client_add(front, client, line, length);
     return true;
@@ -100,12 +98,22 @@ static bool begins_with(const char *line, const char *end, const char *word)
     return (size_t)(end - line) > strlen(word) && memcmp(line, word, strlen(word)) == 0;
 }
 
+/* Takes it that a part of a transaction has ended, if this is a key, of which the first number was read, and a newline. */
+static bool takes_part(struct front *front, const char *key, const char *dot, const char *end)
+{
+    unsigned number;
+    const char *key_end = number_of(dot + 1, end, 10, &number);
+    return key_end != NULL && *key_end == '\n' && lines_again(front, key, key_end);
+}
+
 /* Takes a line of the program with its newline. Returns false if it is none that a lock service writes. */
 static bool takes_line(struct front *front, const char *line, const char *end)
 {
     unsigned number;
     bool is_back = begins_with(line, end, back), has_more = begins_with(line, end, more), is_hang_up = is_back || has_more;
-    const char *rest = number_of(line + (is_back ? strlen(back) : has_more ? strlen(more) : 0), end, &number);
+    const char *first = line + (is_back ? strlen(back) : has_more ? strlen(more) : 0), *rest = number_of(first, end, 5, &number);
+    if (rest != NULL && has_more && *rest == '.')
+        return takes_part(front, first, rest, end);
     if (rest == NULL || *rest != (is_hang_up ? '\n' : ' '))
         return false;
     if (number == 0 && !is_hang_up)

@@ -11,8 +11,13 @@ CONNECTIONS = 5
 OPERATOR = 0
 PART = 256
 """How many transactions of one that hangs up are set aside by one line, and how many end."""
+END_PART = 1024
+"""How many names of a transaction are given back by one line that ends it, if it owns more."""
 OPERATOR_MAY = {b"owner", b"totals", b"graph", b"status", b"holds", b"abort", b"hello", b"list", b"counts"}
 OPERATORS = {b"graph", b"list", b"counts"}
+ENDS = {b"commit", b"abort"}
+OF_OPEN = {b"lock", b"try", b"unlock", b"cancel"}
+"""What a transaction that is set aside cannot ask for."""
 ABOUT_NO_KEY = {b"begin", b"owner"}
 OF_TRANSACTION = {"no-transaction", "waiting"}
 FURTHER = {b"begin": "names", b"lock": "key names", b"fence": "key name", b"hello": "", b"list": "", b"counts": ""}
@@ -69,8 +74,12 @@ class Hub:
             return [to + b"refused operator"]
         key = parts[0] if parts and word not in ABOUT_NO_KEY else None
         may = word in OPERATOR_MAY if connection == OPERATOR else self.began.get(key or b"") == connection
+        if connection != OPERATOR and word in OF_OPEN and key in self.aside:
+            may = False
         if key is not None and not may:
             return [to + b"refused no-transaction"]
+        if word in ENDS and key is not None and self.ends_by_parts(word, key):
+            return self.end_part(key)
         try:
             reply, *rest = self.reply(connection, word, parts)
         except Refused as refused:
@@ -91,6 +100,25 @@ class Hub:
             return [self.lock_names(parts[0], parts[1:]) or b"granted"]
         own = getattr(self, word.decode(), None) if word in FURTHER else None
         return own(*parts) if own is not None else self.service.make(word, *parts)
+
+    # -- ends by parts
+
+    def ends_by_parts(self, word: bytes, key: bytes) -> bool:
+        process = self.service.keys.get(key)
+        if process is None or len(self.service.names[process]) <= END_PART:
+            return False
+        return word == b"abort" or process not in self.service.table.wait
+
+    def end_part(self, key: bytes) -> list[bytes]:
+        """Takes back the wait of a transaction, and gives back the names that it was granted last. The line is to be sent again."""
+        process, lines = self.service.keys[key], []
+        if key not in self.aside:
+            self.aside.insert(0, key)
+        self.service.make(b"cancel", key)
+        for _ in range(END_PART):
+            _, *events = self.service.make(b"unlock", key, self.service.names[process][-1])
+            lines += self.told(events)
+        return [*lines, b"* more " + key]
 
     # -- several names
 

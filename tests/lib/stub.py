@@ -7,7 +7,7 @@ It writes to LOG the words it was started with, and each line that comes. It ans
   flood C N K  flooded, and before that K events of N bytes for client C
   work N       heard, after the clock of its processor time has gone on by N microseconds (FAULT_WORK of fault.c)
   hold, let    the word: after `hold` what is for others than the operator is kept until `let`, or a SIGUSR1
-  more N       the word: the next N hang-ups are answered `* more C`
+  more N       the word: the next N hang-ups are answered `* more C`, and lines `commit K` and `abort K` `* more K`
   end N        nothing, and ends with this status
   LINE         heard, and the bytes of the line as hexadecimal digits
 """
@@ -15,6 +15,9 @@ import os
 import signal
 import sys
 from typing import Any
+
+
+ENDS = [b"commit"], [b"abort"]
 
 
 class Stub:
@@ -33,6 +36,10 @@ class Stub:
             self.parts -= 1
             return
         word, _, rest = request.partition(b" ")
+        if self.parts > 0 and request.split()[:1] in ENDS:
+            self.write(b"* more " + request.split()[1])
+            self.parts -= 1
+            return
         if word == b"work":
             self.work += int(rest)
             os.pwrite(self.clock, self.work.to_bytes(8, sys.byteorder), 0)

@@ -1,7 +1,8 @@
 """Random scripts and requests: what is kept in tests/corpus, those of one seed, and those of a new seed, each as a model answers."""
 import os
+import random
 
-from lib import search, service
+from lib import hub, search, service
 from lib.table import lines_of
 from lib.world import SEED, Case, each, run
 
@@ -85,10 +86,55 @@ class Drawn(Case):
             self.assertGreater(seen, 2, kind)
 
 
+class Many(Case):
+    """Transactions own more names than a script's table has resources, with connections."""
+
+    NAMES = 70_000
+
+    def say(self, line: bytes) -> list[bytes]:
+        """What the model answers to a line, which the program is to answer too."""
+        self.lines.append(line)
+        said = self.hub.answer(line)
+        self.wanted += said
+        return said
+
+    def own(self, connection: int, names: list[bytes]) -> bytes:
+        """A transaction of a connection that owns these names."""
+        key = self.say(b"%d begin" % connection)[0].split(b" ")[2]
+        for first in range(0, len(names), 100):
+            self.say(b"%d lock %b " % (connection, key) + b" ".join(names[first : first + 100]))
+        return key
+
+    def test_ends_by_parts(self) -> None:
+        """One commits and one is aborted, both by parts, between which others ask for their names and the operator looks; a third one hangs up."""
+        self.lines, self.wanted, chance = [], [], random.Random(SEED)  # type: ignore[var-annotated]
+        self.hub = hub.Hub(5, each=40, transactions=64, names=self.NAMES + 9_000)
+        names = [b"%d" % number for number in range(self.NAMES + 6_000)]
+        chance.shuffle(names)
+        own = names[: self.NAMES], names[self.NAMES : self.NAMES + 3_000], names[self.NAMES + 3_000 :]
+        first, second, _ = (self.own(connection, some) for connection, some in zip((1, 2, 3), own))
+        for some in own:
+            for name in chance.sample(some, 8):
+                self.say(b"4 begin %b" % name)
+        for after in chance.sample(own[0], 8):
+            self.say(b"1 holds %b %b" % (first, after))
+        ends = [b"1 commit %b" % first, b"0 abort %b" % second]
+        while ends:
+            line = chance.choice(ends)
+            if not any(said.startswith(b"* more ") for said in self.say(line)):
+                ends.remove(line)
+            chance.choice([lambda: self.say(b"4 begin %b" % chance.choice(names)), lambda: self.say(b"0 list"), lambda: self.say(b"0 counts")])()
+        self.say(b"- 3")
+        self.say(b"0 totals")
+        told = run(search.PROGRAM, "locks", "--connections", "5", "--each", "40", "--transactions", "64", "--names", str(self.NAMES + 9_000),
+                   given=b"".join(line + b"\n" for line in self.lines))  # fmt: skip
+        self.assertEqual(self.passes(told).out.split(b"\n")[:-1], self.wanted)
+
+
 KINDS = {
     "scripts": "ok key granted waits free to finished raised still deadlock standing clear aborted withdrawn settled active waiting convicted owner "
     "totals malformed no table Stale NoResource Waiting AlreadyOwns NotOwner Full LabelsExhausted NotWaiting NoVerdict Carried UnderVerdict".split(),
     "requests": "begun granted held waits deadlock busy unlocked committed aborted cancelled owner free active waiting holds graph totals "
-    "malformed no-transaction waiting not-waiting name-too-long not-owner names-full transactions-full".split() + ["* granted"],
+    "malformed no-transaction waiting not-waiting name-too-long not-owner names-full too-many-names transactions-full".split() + ["* granted"],
 }
 KINDS["connections"] = KINDS["requests"] + "operator - fence no-epoch hello list counts".split() + ["* deadlock", "* aborted"]

@@ -2,6 +2,7 @@
 import os
 import select
 import signal
+import socket
 
 from lib.world import stop, until
 from service.test_front import FULL, StubCase
@@ -104,6 +105,102 @@ class Bounds(StubCase):
             self.assertEqual(len(self.came()), seen + most)
             self.asks(self.admin, (b"let", b"let"))
             self.assertEqual(wire.lines(len(lines)), [b"heard " + line.hex().encode() for line in lines])
+
+
+class Ends(StubCase):
+    """A line that ends a transaction of many names, which the program answers `* more K`: it is passed on again, and its client sees one reply."""
+
+    def heard(self, *lines: bytes) -> list[bytes]:
+        return [b"heard " + line.hex().encode() for line in lines]
+
+    def test_parts_of_an_end(self) -> None:
+        """It is passed on again when its client has its turn, behind those who wait. No other line of the client is until it has its reply."""
+        server = self.stubbed()
+        wire, other = self.wire(server), self.wire(server)
+        for each_wire in wire, other:
+            each_wire.ask(b"a")
+        self.asks(self.admin, (b"more 2", b"more"), (b"hold", b"hold"))
+        self.seen += 2
+        wire.send(b"a\n  commit  3.1\nb\nabort 4.1\nc\n")
+        until(lambda: len(self.came()) == 2, "the first two lines have come")
+        other.send(b"d\n")
+        until(lambda: len(self.came()) == 3, "another one has its turn")
+        self.turn()
+        self.assertEqual(self.came(), [b"1 a", b"1   commit  3.1", b"2 d"])
+        self.asks(self.admin, (b"let", b"let"))
+        self.assertEqual(wire.lines(5), self.heard(b"a", b"commit 3.1", b"b", b"abort 4.1", b"c"))
+        self.assertEqual(other.lines(1), self.heard(b"d"))
+        self.assertEqual(self.came()[3:], [b"1 commit 3.1"] * 2 + [b"1 b", b"1 abort 4.1", b"1 c"])
+
+    def test_two_at_once(self) -> None:
+        """Each is its client's, also if both end the same transaction."""
+        server = self.stubbed()
+        wires = [self.wire(server) for _ in range(2)]
+        for wire in wires:
+            wire.ask(b"a")
+        self.seen += 2
+        self.asks(self.admin, (b"more 3", b"more"), (b"hold", b"hold"))
+        for place, (wire, line) in enumerate(zip(wires, (b"commit 3.1", b"abort 3.1")), 1):
+            wire.send(line + b"\n")
+            until(lambda place=place: len(self.came()) == place, "it has come")
+        self.asks(self.admin, (b"let", b"let"))
+        for wire, line in zip(wires, (b"commit 3.1", b"abort 3.1")):
+            self.assertEqual(wire.lines(1), self.heard(line))
+        self.assertEqual(sorted(self.came()), [b"1 commit 3.1"] * 3 + [b"2 abort 3.1"] * 2)
+
+    def test_end_in_good_order(self) -> None:
+        """What a client sent before its end is done, then it hangs up."""
+        server = self.stubbed()
+        wire = self.wire(server)
+        wire.ask(b"a")
+        self.seen += 1
+        self.asks(self.admin, (b"more 2", b"more"))
+        wire.send(b"commit 3.1\n")
+        wire.socket.shutdown(socket.SHUT_WR)
+        self.assertEqual(wire.all(), b"heard " + b"commit 3.1".hex().encode() + b"\n")
+        self.assertEqual(self.came(), [b"1 commit 3.1"] * 3 + [b"- 1"])
+
+    def test_hang_up_between_parts(self) -> None:
+        """Of one that is cut off nothing is passed on again: its hang-up ends the transaction."""
+        server = self.stubbed("--unread", "1000000", is_quiet=False)
+        wire, other = self.wire(server), self.wire(server)
+        for each_wire in wire, other:
+            each_wire.ask(b"a")
+        self.seen += 2
+        self.asks(self.admin, (b"more 1", b"more"), (b"hold", b"hold"))
+        wire.send(b"commit 3.1\nb\n")
+        until(lambda: self.came() == [b"1 commit 3.1"], "it has come")
+        self.admin.send(b"flood 1 100000 30\n")
+        self.assertEqual(self.admin.lines(1), [b"flooded"])
+        until(lambda: "client 1 is hung up" in server.stderr(), "it is hung up")
+        self.turn()
+        self.asks(self.admin, (b"let", b"let"))
+        until(lambda: b"- 1" in self.came(), "the program is told")
+        self.asks(self.wire(server), (b"a", b"heard 61"))
+        self.assertEqual(self.came()[:2], [b"1 commit 3.1", b"- 1"])
+        self.assertNotIn(b"1 commit 3.1", self.came()[1:])
+
+    def test_of_an_operator(self) -> None:
+        """An operator's line is passed on again too, also if the operator has left: nobody else would end what is left of the transaction."""
+        server = self.stubbed(is_quiet=False)
+        client = self.wire(server)
+        client.ask(b"a")
+        self.asks(self.admin, (b"more 2", b"more"), (b"abort 3.1", *self.heard(b"abort 3.1")), (b"more 2", b"more"), (b"hold", b"hold"))
+        wire = self.wire(self.admin_path)
+        wire.send(b"abort 4.1\n")
+        until(lambda: b"0 abort 4.1" in self.asked(), "it has come")
+        wire.close()
+        client.send(b"say 0 * deadlock 1.1 a 2.1 b|1 said\nlet\n")  # which can no longer be sent to the one that left
+        self.assertEqual((self.admin.lines(1), client.lines(2)), ([b"* deadlock 1.1 a 2.1 b"], [b"said", b"let"]))
+        until(lambda: self.asked().count(b"0 abort 4.1") == 3, "it was passed on three times")
+        self.asks(self.admin, (b"a", b"heard 61"))
+        self.assertEqual(self.asked().count(b"0 abort 3.1"), 3)
+        self.asks(self.wire(server), (b"a", b"heard 61"))
+
+    def asked(self) -> list[bytes]:
+        """What operators asked the program."""
+        with open(self.log, "rb") as file:
+            return [line for line in file.read().split(b"\n") if line.startswith(b"0 ")]
 
 
 class Unread(StubCase):

@@ -122,6 +122,54 @@ class Clients(ServerCase):
         until(lambda: server.descriptors() <= files and self.counts(wire)[0] == self.counts(wire)[2], "all have hung up, and all is aborted")
 
 
+class Ends(ServerCase):
+    """A transaction of more than 1,024 names ends by parts."""
+
+    NAMES = 3000
+
+    def given(self, *lines: bytes) -> list[bytes]:
+        """The answers of the program to these lines, after connection 1 has begun 0.1, which owns NAMES names, and 2 waits for the last and the first of them."""
+        names = [b"%d" % number for number in range(self.NAMES)]
+        locks = [b"1 lock 0.1 " + b" ".join(names[first : first + 100]) for first in range(0, self.NAMES, 100)]
+        before = [b"1 begin", *locks, b"2 begin %d" % (self.NAMES - 1), b"2 begin 0"]
+        told = run(PROGRAM, "locks", "--connections", "3", "--names", "5000", given=b"".join(line + b"\n" for line in [*before, *lines]))
+        return self.passes(told).out.split(b"\n")[len(before) : -1]
+
+    def test_parts_of_a_commit(self) -> None:
+        """Each line gives back 1,024 names, the one that it got last first, and says that there is more. It is counted at the last part."""
+        self.assertEqual(self.given(*[b"1 commit 0.1", b"0 totals"] * 4),
+                         [b"2 * granted 1.1 2999", b"* more 0.1", b"0 totals 3 0 0 0", b"* more 0.1", b"0 totals 3 0 0 0",
+                          b"1 committed", b"2 * granted 2.1 0", b"0 totals 3 1 0 0", b"1 refused no-transaction", b"0 totals 3 1 0 0"])  # fmt: skip
+
+    def test_parts_of_an_abort(self) -> None:
+        """The same of an abort by the operator, of which the connection is told at the last part; and a hang-up ends what is left."""
+        parts = [b"2 * granted 1.1 2999", b"* more 0.1", b"* more 0.1"]
+        self.assertEqual(self.given(*[b"0 abort 0.1"] * 3), [*parts, b"0 aborted", b"1 * aborted 0.1", b"2 * granted 2.1 0"])
+        self.assertEqual(self.given(b"1 abort 0.1", b"1 abort 0.1", b"- 1", b"0 totals"), [*parts, b"2 * granted 2.1 0", b"- 1", b"0 totals 3 0 1 0"])
+
+    def test_between_the_parts(self) -> None:
+        """Who is ending asks for nothing more, and gives no name back by itself."""
+        refused = b"1 refused no-transaction"
+        self.assertEqual(self.given(b"0 abort 0.1", b"1 lock 0.1 x", b"1 lock 0.1 x y", b"1 try 0.1 x", b"1 unlock 0.1 0", b"1 cancel 0.1", b"1 status 0.1"),
+                         [b"2 * granted 1.1 2999", b"* more 0.1", *[refused] * 5, b"1 active"])  # fmt: skip
+
+    def test_of_a_stranger(self) -> None:
+        self.assertEqual(self.given(b"2 commit 0.1", b"0 commit 0.1"), [b"2 refused no-transaction", b"0 refused no-transaction"])
+
+    def test_by_the_server(self) -> None:
+        """A client sees one reply, and others have their turns."""
+        server = self.server("--names", "5000")
+        wire, other = self.wire(server), self.wire(server)
+        mine = begun(wire)
+        for first in range(0, self.NAMES, 100):
+            self.assertEqual(wire.ask(b"lock %b " % mine + b" ".join(b"%d" % number for number in range(first, first + 100))), b"granted")
+        theirs = begun(other)
+        self.assertEqual(other.ask(b"lock %b 0" % theirs), b"waits " + mine)
+        wire.send(b"commit %b\ntotals\n" % mine)
+        self.assertEqual(wire.lines(2), [b"committed", b"totals 2 1 0 0"])
+        self.assertEqual(other.lines(1), [b"* granted %b 0" % theirs])
+
+
 class HangUps(ServerCase):
     """One with many transactions hangs up, of which half wait: for each other, and for one of another client."""
 

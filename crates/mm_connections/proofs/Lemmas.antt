@@ -8,7 +8,9 @@ pub mod Outcomes
 pub mod Config
 -- a part of a hang-up, one transaction after the other
 pub mod Drops
--- what it leaves
+-- a part of an end, and what it leaves
+pub mod Parts
+-- what a hang-up leaves
 pub mod HangUp
 -- the connection that a line names is one of those that there are, and a request of several names is short
 pub mod Said

@@ -5,12 +5,16 @@ use Rattle.mm_lines.specs.Text.{Text}
 use Rattle.mm_lists.specs.Members.{Among}
 use Rattle.mm_tagged_lists.specs.TaggedLists.{Listing}
 use Rattle.mm_rules.specs.TableState.{is_live}
+use Rattle.mm_manager.specs.LockState.{untold}
+use Rattle.mm_service.specs.declared.line.Request.TheVariants as requests
+use Rattle.mm_service.specs.declared.requests.KeyRequest.TheVariants as of_key
 use Rattle.mm_apart.specs.Apart.{IsLeft}
 use Rattle.mm_connections.specs.Begun.{connection_of, has_any, IsOf, has_first, open_list}
 use Rattle.mm_connections.specs.Counts.{count_at}
 use Rattle.mm_connections.specs.Line.{said_of}
 use Rattle.mm_connections.specs.Hub.{Hub, IsLawfulHub}
-use Rattle.mm_connections.specs.Text.{HangsUp, Answers}
+use Rattle.mm_connections.specs.Text.{EndsPart, HangsUp, Makes, Answers}
+use Rattle.mm_connections.specs.declared.request.ClientRequest.TheVariants as asked
 use Rattle.mm_connections.specs.declared.line.Said.{Said}
 use Rattle.mm_connections.specs.declared.line.Said.TheVariants as said
 
@@ -39,6 +43,17 @@ NoneTouches h lines t = (line : List ℕ) → Among line lines → ¬ MayTouch h
 abbrev pub RunsAreApart : Type 0
 RunsAreApart = (whole : Bool) (lines : List (List ℕ)) (out : List ℕ) (malformed : ℕ) (old new : Hub) → Text Answers whole old lines out malformed new
     → (t : Key) → is_live old.manager.table t ≡ true → NoneTouches old lines t → StaysApart old t new
+
+-- by a part of an end nobody ends, and each transaction is whose it was: that one too, which further lines end
+abbrev pub PartsEndNobody : Type 0
+PartsEndNobody = (k : Key) (old new : Hub) (out : List ℕ) → EndsPart k old out new → IsLawfulHub old → (t : Key)
+    → (is_live new.manager.table t ≡ is_live old.manager.table t) × (connection_of new.begun t ≡ connection_of old.begun t)
+
+-- after the last part of an abort, which is an ordinary one, its transaction is not live; after that of a commit neither, if it was not refused
+abbrev pub LastPartsEnd : Type 0
+LastPartsEnd = (c : ℕ) (k : Key) (name out : List ℕ) (old new : Hub) → IsLawfulHub old
+    → (Makes c (asked.Plain (requests.OfKey of_key.Abort k)) name old out new → is_live new.manager.table k ≡ false)
+    × (Makes c (asked.Plain (requests.OfKey of_key.Commit k)) name old out new → (is_live new.manager.table k ≡ false) ⊎ (new.manager ≡ untold old.manager))
 
 -- after a part of a hang-up each transaction of the connection has ended, or is the connection's still
 abbrev pub HangUpEnds : Type 0

@@ -1,6 +1,6 @@
 -- Which connection began each transaction. A connection has two lists of the processes of which it began the last transaction, each under the generation of that one: one of those
 -- that are set aside, since it hangs up, and one of the others.
-use Rattle.std.specs.Prelude.{◌≡◌, ℕ, ◌+◌, ◌*◌, ◌/◌, Bool, ◌||◌, Option, Some, None, option_and_then, is_some, nat_eq, if◌then◌else◌}
+use Rattle.std.specs.Prelude.{◌≡◌, ℕ, ◌+◌, ◌*◌, ◌/◌, ◌%◌, Bool, false, ◌&&◌, ◌||◌, Option, Some, None, option_and_then, is_some, nat_eq, if◌then◌else◌}
 use Rattle.mm_arena.specs.declared.key.Key.{Key}
 use Rattle.mm_lists.specs.Members.{head}
 use Rattle.mm_tagged_lists.specs.declared.spot.Spot.{Spot}
@@ -22,6 +22,15 @@ connection_in spot generation = option_and_then (λ (o : Spot). if nat_eq o.tag 
 abbrev pub connection_of : Listing → Key → Option ℕ
 connection_of begun k = connection_in (spot_at begun k.process) k.generation
 
+-- the spot has this generation as its tag, and is of connection c and not set aside
+abbrev pub is_open_in : ℕ → ℕ → Option Spot → Bool
+is_open_in c generation None = false
+is_open_in c generation (Some o) = nat_eq o.tag generation && nat_eq (o.list % 2) 0 && nat_eq (o.list / 2) c
+
+-- connection c began the transaction, and it is not set aside
+abbrev pub is_open : Listing → ℕ → Key → Bool
+is_open begun c k = is_open_in c k.generation (spot_at begun k.process)
+
 -- the connection began the transaction, and it was not dropped since
 abbrev pub IsOf : Listing → ℕ → Key → Type 0
 IsOf begun c k = connection_of begun k ≡ Some c
@@ -37,6 +46,14 @@ begun_by begun c k = listed begun (open_list c) k
 -- with the transaction of connection c set aside
 abbrev pub set_aside : Listing → ℕ → Key → Listing
 set_aside begun c k = listed begun (aside_list c) k
+
+-- with the transaction set aside, if it is a connection's
+abbrev pub aside_by : Listing → Key → Option ℕ → Listing
+aside_by begun k None = begun
+aside_by begun k (Some c) = set_aside begun c k
+
+abbrev pub now_aside : Listing → Key → Listing
+now_aside begun k = aside_by begun k (connection_of begun k)
 
 -- a process is in this list
 abbrev pub has_first : Listing → ℕ → Bool

@@ -1,13 +1,15 @@
 -- What a connection is answered. What a request does, and its reply, are those of a service without connections (mm_service): here stands who is told what.
-use Rattle.std.specs.Prelude.{◌≡◌, ℕ, Bool, true, false, List, [], ◌∷◌, ◌++◌, drop, take, Option, Some, None, Result, Ok, Err, codes, decimal, nat_eq, nat_le, if◌then◌else◌, slice_index_or, slice_set}
+use Rattle.std.specs.Prelude.{◌≡◌, ℕ, zero, suc, Bool, true, false, List, [], ◌∷◌, ◌++◌, drop, take, Option, Some, None, is_some, Result, Ok, Err, codes, decimal, nat_eq, nat_le, nat_lt, if◌then◌else◌, slice_index_or, slice_set}
 use Rattle.mm_arena.specs.declared.key.Key.{Key}
 use Rattle.mm_arena.specs.Key.{key_text}
 use Rattle.mm_tagged_lists.specs.TaggedLists.{Listing, spot_at, list_at, freed}
 use Rattle.mm_lines.specs.Words.{words_of}
+use Rattle.mm_rules.specs.TableState.{owned_count}
 use Rattle.mm_settled.specs.declared.reply.Grant.{Grant}
 use Rattle.mm_manager.specs.LockState.{LockState, IsLawful}
-use Rattle.mm_manager.specs.Made.{Aborted, Begun, Cancelled}
+use Rattle.mm_manager.specs.Made.{Aborted, Begun, Cancelled, UnlockedAny}
 use Rattle.mm_manager.specs.Permit.{counts_left}
+use Rattle.mm_manager.specs.Reads.{wait_at}
 use Rattle.mm_manager.specs.declared.refusal.Refusal.{Refusal}
 use Rattle.mm_manager.specs.declared.refusal.Refusal.TheVariants.{NoTransaction, CountsFull, TransactionsFull}
 use Rattle.mm_service.specs.Cycle.{pair_text, pairs_text}
@@ -16,7 +18,10 @@ use Rattle.mm_service.specs.Text.{Replies, told_line}
 use Rattle.mm_service.specs.declared.effect.Effect.{Effect}
 use Rattle.mm_service.specs.declared.effect.Effect.TheVariants as effects
 use Rattle.mm_service.specs.declared.line.Request.{Request}
-use Rattle.mm_connections.specs.Begun.{aside_list, begun_by, connection_of, has_any, has_first, open_list, set_aside}
+use Rattle.mm_service.specs.declared.line.Request.TheVariants as requests
+use Rattle.mm_service.specs.declared.requests.KeyRequest.{KeyRequest}
+use Rattle.mm_service.specs.declared.requests.KeyRequest.TheVariants as of_key
+use Rattle.mm_connections.specs.Begun.{aside_list, begun_by, connection_of, has_any, has_first, now_aside, open_list, set_aside}
 use Rattle.mm_connections.specs.Counts.{after_end, count_at, counted, one_more}
 use Rattle.mm_connections.specs.Hub.{Hub, IsLawfulHub, to, to_any}
 use Rattle.mm_connections.specs.Line.{said_of}
@@ -27,6 +32,7 @@ use Rattle.mm_connections.specs.declared.hang_up.TheConstants.{HANG_UP_PART}
 use Rattle.mm_connections.specs.declared.line.Said.{Said}
 use Rattle.mm_connections.specs.declared.line.Said.TheVariants as said
 use Rattle.mm_connections.specs.declared.names.Stop.{Stop}
+use Rattle.mm_connections.specs.declared.parts.TheConstants.{END_PART}
 use Rattle.mm_connections.specs.declared.permission.Permission.{Permission}
 use Rattle.mm_connections.specs.declared.permission.Permission.TheVariants as permit
 use Rattle.mm_connections.specs.declared.request.ClientRequest.{ClientRequest}
@@ -71,6 +77,53 @@ events_text c request about h effects.EndedWaits = told_text None h
 events_text c request about h (effects.Ended k) = to_any (end_receiver c (connection_of h.begun k)) (line_text (aborted_text k)) ++ told_text None h
 events_text c request about h (effects.Deadlock k holder place) = deadlock_text h.manager k (asked_name request about place) holder
 events_text c request about h effects.Nothing = []
+
+-- ---- a part of an end
+
+-- k gives back a name that it owns, as by an unlock: the one it got last. Who is granted it is told, but not connection `but`
+pub record GivesBack (but : Option ℕ) (k : Key) (old : Hub) (out : List ℕ) (new : Hub) : Type 0 where
+  pub answer : Result (Unit {0}) Refusal
+  pub did : UnlockedAny old.manager k answer new.manager
+  pub lawful : IsLawful new.manager
+  pub rest : new ≡ record old { manager = new.manager }
+  pub text : out ≡ told_text but new
+
+-- so many names, one after the other
+unfoldable pub GivesBackMany : Option ℕ → Key → ℕ → Hub → List ℕ → Hub → Type 0
+GivesBackMany but k zero old out new = (out ≡ []) × (new ≡ old)
+GivesBackMany but k (suc n) old out new =
+    (mid : Hub) × (first : List ℕ) × (last : List ℕ) × GivesBackMany but k n old first mid × GivesBack but k mid last new × (out ≡ first ++ last)
+
+-- who owns more names than END_PART ends by parts
+abbrev pub many : Hub → Key → Option Key
+many h k = if nat_lt END_PART (owned_count h.manager.table k) then Some k else None
+
+-- a commit of who waits is refused
+abbrev pub part_of_key : Hub → KeyRequest → Key → Option Key
+part_of_key h of_key.Commit k = if is_some (wait_at h.manager.table k.process) then None else many h k
+part_of_key h of_key.Abort k = many h k
+part_of_key h _ k = None
+
+-- the transaction that a request ends a part of, and no more
+abbrev pub part_of : Hub → ClientRequest → Option Key
+part_of h (asked.Plain (requests.OfKey request k)) = part_of_key h request k
+part_of h _ = None
+
+-- that k has to be ended by a further line is told to the server alone
+abbrev pub more_text : Key → List ℕ
+more_text k = line_text (codes "* more " ++ key_text k)
+
+-- a part of the end of k, which is its connection's still: it is set aside, takes back its wait, if it waits, and gives back END_PART names. Others are told what that caused
+pub record EndsPart (k : Key) (old : Hub) (out : List ℕ) (new : Hub) : Type 0 where
+  pub idle : Hub
+  pub answer : Result (Unit {0}) Refusal
+  pub did : Cancelled old.manager k answer idle.manager
+  pub back : IsLawful idle.manager
+  pub rest : idle ≡ record old { manager = idle.manager; begun = now_aside old.begun k }
+  pub told : List ℕ
+  pub gives : GivesBackMany None k END_PART idle told new
+  pub lawful : IsLawfulHub new
+  pub text : out ≡ told ++ more_text k
 
 -- ---- requests
 
@@ -124,9 +177,14 @@ pub record Makes (c : ℕ) (request : ClientRequest) (name : List ℕ) (old : Hu
   pub lawful : IsLawfulHub new
   pub text : out ≡ to c reply ++ events_text c request name new effect
 
+-- a request of which this transaction is ended by a part, if any is
+abbrev pub MakesBy : Option Key → ℕ → ClientRequest → List ℕ → Hub → List ℕ → Hub → Type 0
+MakesBy None c request name old out new = Makes c request name old out new
+MakesBy (Some k) c request name old out new = EndsPart k old out new
+
 -- a request by what becomes of it
 abbrev pub ServesBy : Permission → ℕ → ClientRequest → List ℕ → Hub → List ℕ → Hub → Type 0
-ServesBy permit.Make c request name old out new = Makes c request name old out new
+ServesBy permit.Make c request name old out new = MakesBy (part_of old request) c request name old out new
 ServesBy permit.NoTransaction c request name old out new = (out ≡ to c (line_text (codes "refused " ++ refusal_word NoTransaction))) × (new ≡ old)
 ServesBy permit.Operator c request name old out new = (out ≡ to c (line_text (codes "refused operator"))) × (new ≡ old)
 

@@ -1,8 +1,8 @@
 //! Which connection began each transaction.
-ghost use Rattle.std.specs.Prelude.{◌≡◌, ◌<◌, ◌*◌, length, IfOk, IfSome, MatchOption, Some, []};
+ghost use Rattle.std.specs.Prelude.{◌≡◌, ◌<◌, ◌*◌, ◌%◌, length, IfOk, IfSome, MatchOption, Some, []};
 ghost use Rattle.mm_tagged_lists.specs.TaggedLists.{unlisted, spot_at, list_at, freed, ListsMatchSpots};
 ghost use Rattle.mm_lists.specs.Members.{head};
-ghost use Rattle.mm_connections.specs.Begun.{aside_list, begun_by, connection_of, has_any, has_first, listed, open_list, set_aside};
+ghost use Rattle.mm_connections.specs.Begun.{aside_list, begun_by, connection_of, has_any, has_first, is_open, listed, now_aside, open_list, set_aside};
 
 use mm_manager::Key;
 use mm_tagged_lists::{Spot, TaggedLists};
@@ -71,6 +71,21 @@ impl Begun {
         }
     }
 
+    /// Returns whether a connection began a transaction, and it is not set aside, in constant time.
+    pub fn is_open(&self, connection: u32, key: Key) -> bool
+        ensures { result ≡ is_open self.now connection key }
+    {
+        if key.process >= self.processes {
+            return false;
+        }
+        match self.lists.spot(key.process) {
+            Some(spot) => {
+                spot.tag == key.generation && spot.list % 2 == 0 && spot.list / 2 == connection
+            }
+            None => false,
+        }
+    }
+
     /// Keeps that the connection began this transaction, in constant time.
     pub fn begin(&mut self, connection: u32, key: Key)
         requires connection { aside_list connection < length self.old.lists }
@@ -96,6 +111,25 @@ impl Begun {
         let key = self.first(connection * 2)?;
         self.put(connection * 2 + 1, key);
         Some(key)
+    }
+
+    /// Sets a transaction aside, if it is a connection's, in constant time.
+    pub fn set_aside(&mut self, key: Key)
+        requires { length self.old.lists % 2 ≡ 0 }
+        ensures aside { self.new ≡ now_aside self.old key }
+        ensures lists { length self.new.lists ≡ length self.old.lists }
+        ensures spots { length self.new.spots ≡ length self.old.spots }
+    {
+        let _count = self.lists_len;
+        if key.process >= self.processes {
+            return;
+        }
+        let Some(spot) = self.lists.spot(key.process) else {
+            return;
+        };
+        if spot.tag == key.generation {
+            self.put(spot.list / 2 * 2 + 1, key);
+        }
     }
 
     /// Takes the first process of a connection that is set aside, which is nobody's from now on, and returns its last transaction, in constant

@@ -118,27 +118,27 @@ impl ServedManager {
             self.counts.count_end(connection, &answer);
             self.manager.keeps_laws();
             self.begun.keeps_laws();
-            written = self.write_told_after(written, connection, output, writer);
+            written = self.write_told_after(written, Some(connection), output, writer);
         }
         written
     }
 
-    /// Writes whose waits the last call ended, but to this connection, if what came before was written.
-    fn write_told_after<W: Write>(
+    /// Writes whose waits the last call ended, but to none that hangs up, if what came before was written.
+    pub(crate) fn write_told_after<W: Write>(
         &self,
         before: Result<(), Fault>,
-        connection: u32,
+        but: Option<u32>,
         output: &mut Output,
         writer: &mut W,
     ) -> Result<(), Fault>
         requires { IsOkUnless before Fault.Write }
         ensures told { MatchResult before
-            (λ _. (lost : List ℕ) × Writes (W.contents writer.old) (W.contents writer.new) (output.old.items ++ told_text (Some connection) (hub_of self.now)) lost × OnOk result (lost ≡ output.new.items))
+            (λ _. (lost : List ℕ) × Writes (W.contents writer.old) (W.contents writer.new) (output.old.items ++ told_text but (hub_of self.now)) lost × OnOk result (lost ≡ output.new.items))
             (λ fault. (W.contents writer.new ≡ W.contents writer.old) × (result ≡ Err fault)) }
         ensures fault { IsOkUnless result Fault.Write }
     {
         match before {
-            Ok(()) => self.write_told(Some(connection), output, writer),
+            Ok(()) => self.write_told(but, output, writer),
             Err(fault) => Err(fault),
         }
     }

@@ -6,6 +6,7 @@
 //! - `permission`: what a connection may ask for.
 //! - `served`: serves a connection. `make`: makes a request. `names`: a request of several names. `reads`: what a connection reads.
 //! - `events`: tells connections what a request caused.
+//! - `parts`: a transaction of many names ends, a part of it by a line.
 //! - `hang_up`: a connection hangs up, a part of it by a line.
 //! - `options`, `service`: `ConnectionService`, what callers open and run.
 //! - `laws`: connections are apart.
@@ -21,6 +22,7 @@ mod line;
 mod make;
 mod names;
 mod options;
+mod parts;
 mod permission;
 mod reads;
 mod request;
@@ -28,7 +30,8 @@ mod served;
 mod service;
 
 pub use laws::{
-    hang_up_ends, hang_up_ends_last, hang_up_leaves_none, lines_are_apart, runs_are_apart,
+    hang_up_ends, hang_up_ends_last, hang_up_leaves_none, last_parts_end, lines_are_apart,
+    parts_end_nobody, runs_are_apart,
 };
 pub use mm_service::{ManagerConfig, OpenError, ServiceFault};
 pub use options::ConnectionOptions;

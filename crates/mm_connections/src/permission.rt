@@ -1,6 +1,6 @@
 //! What a connection may ask for.
 ghost use Rattle.std.specs.Prelude.{◌≡◌};
-ghost use Rattle.mm_connections.specs.Permission.{of_any, of_own, permission_of, plain_permission, read_permission};
+ghost use Rattle.mm_connections.specs.Permission.{of_any, of_open, of_own, of_own_key, permission_of, plain_permission, read_permission};
 
 use crate::begun::Begun;
 use crate::request::{ClientRequest, ReadRequest};
@@ -28,7 +28,7 @@ pub fn permission_of(begun: &Begun, connection: u32, request: ClientRequest) -> 
     match request {
         ClientRequest::Begin if connection == OPERATOR => Permission::Operator,
         ClientRequest::Begin => Permission::Make,
-        ClientRequest::LockAll(key) => of_own(begun, connection, key),
+        ClientRequest::LockAll(key) => of_open(begun, connection, key),
         ClientRequest::Plain(request) => plain_permission(begun, connection, request),
         ClientRequest::Read(request) => read_permission(begun, connection, request),
     }
@@ -39,9 +39,9 @@ fn plain_permission(begun: &Begun, connection: u32, request: Request) -> Permiss
     ensures { result ≡ plain_permission begun.now connection request }
 {
     match request {
-        Request::OfName(_, key) => of_own(begun, connection, key),
+        Request::OfName(_, key) => of_open(begun, connection, key),
         Request::OfKey(request, _) if connection == OPERATOR => of_any(request),
-        Request::OfKey(_, key) => of_own(begun, connection, key),
+        Request::OfKey(request, key) => of_own_key(begun, connection, request, key),
         Request::Owner | Request::Totals => Permission::Make,
         Request::Begin | Request::Holds(_) | Request::Graph => Permission::Operator,
     }
@@ -70,6 +70,29 @@ fn of_own(begun: &Begun, connection: u32, key: Key) -> Permission
     match begun.connection(key) {
         Some(owner) if owner == connection => Permission::Make,
         Some(_) | None => Permission::NoTransaction,
+    }
+}
+
+/// Returns what becomes of a request of a transaction that has to be the connection's own, and not be ending.
+fn of_open(begun: &Begun, connection: u32, key: Key) -> Permission
+    ensures { result ≡ of_open begun.now connection key }
+{
+    if begun.is_open(connection, key) {
+        Permission::Make
+    } else {
+        Permission::NoTransaction
+    }
+}
+
+/// Returns what becomes of a request of a key that has to be the connection's own.
+fn of_own_key(begun: &Begun, connection: u32, request: KeyRequest, key: Key) -> Permission
+    ensures { result ≡ of_own_key begun.now connection request key }
+{
+    match request {
+        KeyRequest::Cancel => of_open(begun, connection, key),
+        KeyRequest::Commit | KeyRequest::Abort | KeyRequest::Status => {
+            of_own(begun, connection, key)
+        }
     }
 }
 

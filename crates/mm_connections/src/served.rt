@@ -1,10 +1,10 @@
 //! Serves a connection.
-ghost use Rattle.std.specs.Prelude.{◌≡◌, ◌<◌, ◌≤◌, ◌+◌, ◌*◌, ◌++◌, ℕ, List, length, codes, decimal, IfOk, OnOk, IsOkUnless, if◌then◌else◌};
+ghost use Rattle.std.specs.Prelude.{◌≡◌, ◌<◌, ◌≤◌, ◌+◌, ◌*◌, ◌%◌, ◌++◌, ℕ, List, length, codes, decimal, IfOk, OnOk, IsOkUnless, if◌then◌else◌};
 ghost use Rattle.arrayvec.specs.ArrayVec.{array_vec_len};
 ghost use Rattle.mm_lines.specs.Output.{Prints, Writes};
 ghost use Rattle.mm_service.specs.Holds.{HasRoom};
 ghost use Rattle.mm_connections.specs.Hub.{IsLawfulHub};
-ghost use Rattle.mm_connections.specs.Text.{Answers, Serves};
+ghost use Rattle.mm_connections.specs.Text.{Answers, MakesBy, Serves, part_of};
 ghost use Rattle.mm_connections.specs.Begun.{aside_list};
 
 use crate::begun::Begun;
@@ -90,6 +90,7 @@ impl ServedManager {
     ) -> Result<(), Fault>
         requires room { array_vec_len output.old + MAX_ANSWER ≤ OUTPUT_LEN }
         requires connection { aside_list heard.connection < length self.old.begun.lists }
+        requires even { length self.old.begun.lists % 2 ≡ 0 }
         requires slots { self.old.manager.table.config.processes ≤ length self.old.begun.spots }
         requires numbers { HasRoom self.old.manager numbers.old }
         requires short { length heard.name.now ≤ MAX_REQUEST }
@@ -104,16 +105,49 @@ impl ServedManager {
     {
         self.manager.keeps_laws();
         self.begun.keeps_laws();
-        print_to(output, heard.connection);
         match permission_of(&self.begun, heard.connection, heard.request) {
-            Permission::Make => self.make(heard, numbers, output, writer),
+            Permission::Make => self.make_or_end(heard, numbers, output, writer),
             Permission::NoTransaction => {
+                print_to(output, heard.connection);
                 print_line(output, b"refused no-transaction");
                 Ok(())
             }
             Permission::Operator => {
+                print_to(output, heard.connection);
                 print_line(output, b"refused operator");
                 Ok(())
+            }
+        }
+    }
+
+    /// Makes a request, or ends a part of its transaction.
+    fn make_or_end<W: Write>(
+        &mut self,
+        heard: Heard<'_, ClientRequest>,
+        numbers: &mut Numbers,
+        output: &mut Output,
+        writer: &mut W,
+    ) -> Result<(), Fault>
+        requires room { array_vec_len output.old + MAX_ANSWER ≤ OUTPUT_LEN }
+        requires connection { aside_list heard.connection < length self.old.begun.lists }
+        requires even { length self.old.begun.lists % 2 ≡ 0 }
+        requires slots { self.old.manager.table.config.processes ≤ length self.old.begun.spots }
+        requires numbers { HasRoom self.old.manager numbers.old }
+        requires short { length heard.name.now ≤ MAX_REQUEST }
+        ensures makes { (text : List ℕ) × (lost : List ℕ) × MakesBy (part_of (hub_of self.old) heard.entry.request) heard.entry.connection heard.entry.request heard.entry.name.now (hub_of self.old) text (hub_of self.new)
+            × Writes (W.contents writer.old) (W.contents writer.new) (output.old.items ++ text) lost × OnOk result (lost ≡ output.new.items) }
+        ensures fault { IsOkUnless result Fault.Write }
+        ensures lists { length self.new.begun.lists ≡ length self.old.begun.lists }
+        ensures spots { length self.new.begun.spots ≡ length self.old.begun.spots }
+        ensures config { self.new.manager.table.config ≡ self.old.manager.table.config }
+        ensures options { self.new.options ≡ self.old.options }
+        ensures numbers { HasRoom self.new.manager numbers.new }
+    {
+        match self.part_of(heard.request) {
+            Some(key) => self.end_by_part(key, output, writer),
+            None => {
+                print_to(output, heard.connection);
+                self.make(heard, numbers, output, writer)
             }
         }
     }

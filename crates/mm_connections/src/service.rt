@@ -42,7 +42,8 @@ impl ConnectionService {
     /// Connection 0 is the operator's.
     ///
     /// Refused as `LockManager::open` is. This is the one call that takes memory: that of the manager, 4 bytes for each of `config.names`, 16
-    /// for each transaction that can be live, 12 for each connection, and 4 KiB. It is refused as `Memory` too if there are 2,147,483,648 connections or more.
+    /// for each transaction that can be live, 12 for each connection, and 4 KiB. It is refused as `Memory` too if there are 2,147,483,648
+    /// connections or more.
     pub fn open(
         alloc: Global,
         config: ManagerConfig,

@@ -1,13 +1,13 @@
 -- Who is live no longer stays so while others are aborted, and an abort ends its own transaction.
-use Rattle.std.proofs.Common.{◌≡◌, ◌≢◌, false, Result, Ok, Err, inl, inr, sym, ap, subst, ◌∙◌}
+use Rattle.std.proofs.Common.{◌≡◌, ◌≢◌, ◌⊎◌, false, Result, Ok, Err, inl, inr, sym, ap, subst, ◌∙◌}
 use Rattle.std.proofs.lemmas.Bool.{cases_eq}
 use Rattle.mm_arena.specs.declared.key.Key.{Key}
 use Rattle.mm_rules.specs.TableState.{TableState, is_live}
 use Rattle.mm_rules.specs.Event.{Finish}
 use Rattle.mm_rules.specs.Laws.{Laws}
 use Rattle.mm_settled.specs.Calls.{Made}
-use Rattle.mm_manager.specs.Calls.{Aborts}
-use Rattle.mm_manager.specs.LockState.{LockState, IsLawful}
+use Rattle.mm_manager.specs.Calls.{Aborts, Commits}
+use Rattle.mm_manager.specs.LockState.{LockState, IsLawful, untold}
 use Rattle.mm_manager.specs.declared.refusal.Refusal.{Refusal}
 use Rattle.mm_apart.proofs.Lemmas.Slots.{SameSlot, same_live}
 use Rattle.mm_apart.proofs.Lemmas.Events.{IsGone, gone_dead, finished_gone, finished_same, withdrawal_live, rests_dead}
@@ -25,6 +25,11 @@ finish_dead s u k t laws made dead = rests_dead made.mid u t made.rests (dead_by
 
 finish_own : (s u : TableState) (k : Key) → Made (Finish k) s tt u → is_live u k ≡ false
 finish_own s u k made = rests_dead made.mid u k made.rests (gone_dead made.mid k (finished_gone s made.mid k made.event))
+
+-- after a commit its transaction is not live, unless it was refused
+pub commit_own : (old new : LockState) (k : Key) (answer : Result (Unit {0}) Refusal) → Commits old k answer new → (is_live new.table k ≡ false) ⊎ (new ≡ untold old)
+commit_own old new k (Ok done) did = inl (finish_own old.table new.table k did.over.made)
+commit_own old new k (Err refusal) did = inr did.0
 
 module _ (old new : LockState) (k : Key) (lawful : IsLawful old) where
   same_table : (t : Key) → new.table ≡ old.table → is_live new.table t ≡ is_live old.table t

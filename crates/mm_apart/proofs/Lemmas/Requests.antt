@@ -11,7 +11,7 @@ use Rattle.mm_rules.proofs.States.EventsKeepLaws.{event_keeps}
 use Rattle.mm_rules.proofs.States.WithdrawLaws.{withdraw_keeps_laws}
 use Rattle.mm_settled.specs.Calls.{MadeWithdrawal, Rests, WaitsFrom}
 use Rattle.mm_settled.proofs.Lemmas.Accepted.{accepted}
-use Rattle.mm_manager.specs.Calls.{Gets, Queues, IsDeclined, LosesName, LosesAll, Unlocks, Ends, TakesBack, Aborts, Cancels}
+use Rattle.mm_manager.specs.Calls.{Gets, Queues, IsDeclined, LosesName, LosesAll, Unlocks, Ends, TakesBack, Aborts, Cancels, UnlocksAny}
 use Rattle.mm_manager.specs.LockState.{LockState, Owns, IsLawful}
 use Rattle.mm_manager.specs.declared.refusal.Refusal.{Refusal}
 use Rattle.mm_manager.specs.declared.reply.Lock.{Lock}
@@ -182,6 +182,19 @@ module _ (old new : LockState) (k t : Key) (lawful : IsLawful old) (after : IsLa
   pub cancels : (answer : Result (Unit {0}) Refusal) → Cancels old k answer new → IsLeft old t new
   cancels (Ok done) back = withdrawn_left old new k t live apart back
   cancels (Err refusal) did = untold_left old new t live did.0
+
+-- ---- an unlock of whatever name a transaction owns
+
+pub unlocks_any : (old new : LockState) (k t : Key) → IsLawful old → IsLawful new → is_live old.table t ≡ true → ¬ (k ≡ t) → (answer : Result (Unit {0}) Refusal) → UnlocksAny old k answer new → IsLeft old t new
+unlocks_any old new k t lawful after live apart (Ok done) did = unlocks_left old new k t lawful.laws after.laws live apart did.0 did.1
+unlocks_any old new k t lawful after live apart (Err refusal) did = untold_left old new t live did.0
+
+-- nobody ends by it
+pub unlock_live : (old new : LockState) (k t : Key) → IsLawful old → (answer : Result (Unit {0}) Refusal) → UnlocksAny old k answer new → is_live new.table t ≡ is_live old.table t
+unlock_live old new k t lawful (Ok done) (name, did) =
+    let made = did.over.made in
+    rests_live old.table made.mid new.table t made.rests (released_same t.process old.table made.mid k did.number did.answer lawful.laws made.event)
+unlock_live old new k t lawful (Err refusal) did = ap (λ (m : LockState). is_live m.table t) did.0
 
 -- ---- requests
 

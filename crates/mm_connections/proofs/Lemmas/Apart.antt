@@ -1,31 +1,35 @@
 -- Connections are apart.
-use Rattle.std.proofs.Common.{◌≡◌, ◌≢◌, ◌+◌, ℕ, Bool, true, false, List, [], ◌∷◌, drop, Option, Some, None, Result, Ok, Err, nat_eq, if◌then◌else◌, inl, inr, refl, sym, ap, subst, ◌∙◌}
+use Rattle.std.proofs.Common.{◌≡◌, ◌≢◌, ◌+◌, ◌/◌, ◌%◌, ◌&&◌, ℕ, Bool, true, false, List, [], ◌∷◌, drop, Option, Some, None, is_some, Result, Ok, Err, nat_eq, nat_lt, if◌then◌else◌, inl, inr, refl, sym, ap, subst, ◌∙◌}
 use Rattle.std.specs.Option.{option_map_or}
-use Rattle.std.proofs.lemmas.Bool.{cases_Bool, eqb-true}
+use Rattle.std.proofs.lemmas.Bool.{and_parts, cases_Bool, eqb-true}
 use Rattle.mm_arena.specs.declared.key.Key.{Key}
-use Rattle.mm_tagged_lists.specs.TaggedLists.{Listing}
-use Rattle.mm_rules.specs.TableState.{TableState, is_live}
+use Rattle.mm_tagged_lists.specs.declared.spot.Spot.{Spot}
+use Rattle.mm_tagged_lists.specs.TaggedLists.{Listing, spot_at}
+use Rattle.mm_rules.specs.TableState.{TableState, is_live, owned_count}
 use Rattle.mm_rules.specs.Event.{Begin, Step}
 use Rattle.mm_rules.specs.Laws.{Laws}
 use Rattle.mm_rules.proofs.States.Keys.{keys_are_fresh}
 use Rattle.mm_lines.specs.Words.{words_of}
 use Rattle.mm_manager.specs.LockState.{LockState, IsLawful}
 use Rattle.mm_manager.specs.Made.{Begun}
+use Rattle.mm_manager.specs.Reads.{wait_at}
 use Rattle.mm_manager.specs.declared.refusal.Refusal.{Refusal}
 use Rattle.mm_manager.proofs.Lemmas.Requests.{one_key}
 use Rattle.mm_service.specs.declared.effect.Effect.{Effect}
 use Rattle.mm_service.specs.declared.line.Request.{Request}
 use Rattle.mm_service.specs.declared.line.Request.TheVariants as requests
+use Rattle.mm_service.specs.declared.requests.KeyRequest.{KeyRequest}
+use Rattle.mm_service.specs.declared.requests.KeyRequest.TheVariants as of_key
 use Rattle.mm_apart.specs.Apart.{IsLeft, IsOfKey}
 use Rattle.mm_apart.proofs.Lemmas.Events.{begun_live}
 use Rattle.mm_apart.proofs.Lemmas.Left.{as_it_was, left_left}
 use Rattle.mm_apart.proofs.Lemmas.Requests.{begun, locked, others_are_left}
-use Rattle.mm_connections.specs.Begun.{connection_of, IsOf, open_list}
+use Rattle.mm_connections.specs.Begun.{connection_in, connection_of, IsOf, is_open, is_open_in, open_list}
 use Rattle.mm_connections.specs.Line.{said_of}
-use Rattle.mm_connections.specs.Permission.{is_of, of_own, of_any, permission_of, plain_permission}
+use Rattle.mm_connections.specs.Permission.{is_of, of_open, of_own, of_own_key, of_any, permission_of, plain_permission}
 use Rattle.mm_connections.specs.Hub.{Hub}
 use Rattle.mm_connections.specs.Names.{LocksNames}
-use Rattle.mm_connections.specs.Text.{Asks, BeginsAs, BeginsBy, RepliesTo, ServesBy, AnswersSaid, is_full}
+use Rattle.mm_connections.specs.Text.{Asks, BeginsAs, BeginsBy, MakesBy, RepliesTo, ServesBy, AnswersSaid, is_full, many, part_of, part_of_key}
 use Rattle.mm_connections.specs.declared.line.Said.{Said}
 use Rattle.mm_connections.specs.declared.line.Said.TheVariants as said
 use Rattle.mm_connections.specs.declared.permission.Permission.{Permission}
@@ -36,6 +40,7 @@ use Rattle.mm_connections.specs.declared.request.ClientRequest.TheVariants as as
 use Rattle.mm_connections.specs.Apart.{StaysApart, MayTouch, LinesAreApart}
 use Rattle.mm_connections.proofs.Lemmas.Begun.{listed_else}
 use Rattle.mm_connections.proofs.Lemmas.HangUp.{same_stays, hangs_apart}
+use Rattle.mm_connections.proofs.Lemmas.Parts.{part_apart}
 
 -- ---- a request is of the connection's own transaction
 
@@ -51,12 +56,40 @@ own_made b c k is = elim (cases_Bool (is_of b c k)) [
       absurd (cc)
 ]
 
+open_own : (o : Option Spot) (c g : ℕ) → is_open_in c g o ≡ true → connection_in o g ≡ Some c
+open_own None c g is = absurd (cc)
+open_own (Some o) c g is =
+    let parts = and_parts (nat_eq o.tag g && nat_eq (o.list % 2) 0) (nat_eq (o.list / 2) c) is in
+    let tag = and_parts (nat_eq o.tag g) (nat_eq (o.list % 2) 0) parts.0 in
+    ap (λ (x : Bool). if x then Some (o.list / 2) else None) tag.0 ∙ ap (λ n. Some n) (eqb-true (o.list / 2) c parts.1)
+
+open_made : (b : Listing) (c : ℕ) (k : Key) → of_open b c k ≡ permit.Make → IsOf b c k
+open_made b c k is = elim (cases_Bool (is_open b c k)) [
+  | inl own ↦ open_own (spot_at b k.process) c k.generation own
+  | inr other ↦
+      let refused : permit.NoTransaction ≡ permit.Make = sym (ap (λ (x : Bool). if x then permit.Make else permit.NoTransaction) other) ∙ is in
+      absurd (cc)
+]
+
+own_key_made : (b : Listing) (c : ℕ) (request : KeyRequest) (k : Key) → of_own_key b c request k ≡ permit.Make → IsOf b c k
+own_key_made b c of_key.Cancel k is = open_made b c k is
+own_key_made b c of_key.Commit k is = own_made b c k is
+own_key_made b c of_key.Abort k is = own_made b c k is
+own_key_made b c of_key.Status k is = own_made b c k is
+
 -- not the operator's
 else_made : (any own : Permission) (c : ℕ) → c ≢ 0 → (if nat_eq c 0 then any else own) ≡ permit.Make → own ≡ permit.Make
 else_made any own c other is = elim (cases_Bool (nat_eq c 0)) [
   | inl operator ↦ absurd (other (eqb-true c 0 operator))
   | inr client ↦ sym (ap (λ (x : Bool). if x then any else own) client) ∙ is
 ]
+
+many_own : (h : Hub) (k j : Key) → many h k ≡ Some j → k ≡ j
+many_own h k j is = by_many (nat_lt 1024 (owned_count h.manager.table k)) is
+  where
+    by_many : (b : Bool) → (if b then Some k else None) ≡ Some j → k ≡ j
+    by_many true is = cc
+    by_many false is = absurd (cc)
 
 -- the transaction that a request is of, where it is made
 abbrev IsOfClient : ClientRequest → Key → Type 0
@@ -67,8 +100,8 @@ IsOfClient (asked.Read request) t = ⊥
 
 plain_own : (b : Listing) (c : ℕ) (request : Request) (t : Key) → c ≢ 0 → plain_permission b c request ≡ permit.Make → IsOfKey request t → IsOf b c t
 plain_own b c requests.Begin t other made never = absurd never
-plain_own b c (requests.OfName request k) t other made same = subst (λ j. IsOf b c j) same (own_made b c k made)
-plain_own b c (requests.OfKey request k) t other made same = subst (λ j. IsOf b c j) same (own_made b c k (else_made (of_any request) (of_own b c k) c other made))
+plain_own b c (requests.OfName request k) t other made same = subst (λ j. IsOf b c j) same (open_made b c k made)
+plain_own b c (requests.OfKey request k) t other made same = subst (λ j. IsOf b c j) same (own_key_made b c request k (else_made (of_any request) (of_own_key b c request k) c other made))
 plain_own b c (requests.Holds k) t other made same = absurd (cc)
 plain_own b c requests.Owner t other made never = absurd never
 plain_own b c requests.Graph t other made never = absurd never
@@ -76,7 +109,7 @@ plain_own b c requests.Totals t other made never = absurd never
 
 its_own : (b : Listing) (c : ℕ) (request : ClientRequest) (t : Key) → c ≢ 0 → permission_of b c request ≡ permit.Make → IsOfClient request t → IsOf b c t
 its_own b c asked.Begin t other made never = absurd never
-its_own b c (asked.LockAll k) t other made same = subst (λ j. IsOf b c j) same (own_made b c k made)
+its_own b c (asked.LockAll k) t other made same = subst (λ j. IsOf b c j) same (open_made b c k made)
 its_own b c (asked.Plain request) t other made same = plain_own b c request t other made same
 its_own b c (asked.Read request) t other made never = absurd never
 
@@ -129,9 +162,40 @@ replies_apart c (asked.LockAll k) name old reply effect new t (stop, all, said, 
 replies_apart c (asked.Plain request) name old reply effect new t did lawful after live other = asks_apart request name old reply effect new t did lawful after live other
 replies_apart c (asked.Read request) name old reply effect new t (read, none, same) lawful after live other = same_stays old new t same live
 
+-- the transaction that a request ends a part of is the one that it is of
+part_own_key : (h : Hub) (request : KeyRequest) (k j : Key) → part_of_key h request k ≡ Some j → k ≡ j
+part_own_key h of_key.Commit k j is = by_wait (is_some (wait_at h.manager.table k.process)) is
+  where
+    by_wait : (b : Bool) → (if b then None else many h k) ≡ Some j → k ≡ j
+    by_wait true is = absurd (cc)
+    by_wait false is = many_own h k j is
+part_own_key h of_key.Abort k j is = many_own h k j is
+part_own_key h of_key.Cancel k j is = absurd (cc)
+part_own_key h of_key.Status k j is = absurd (cc)
+
+plain_part_own : (h : Hub) (request : Request) (j : Key) → part_of h (asked.Plain request) ≡ Some j → IsOfKey request j
+plain_part_own h requests.Begin j is = absurd (cc)
+plain_part_own h (requests.OfName request k) j is = absurd (cc)
+plain_part_own h (requests.OfKey request k) j is = part_own_key h request k j is
+plain_part_own h (requests.Holds k) j is = absurd (cc)
+plain_part_own h requests.Owner j is = absurd (cc)
+plain_part_own h requests.Graph j is = absurd (cc)
+plain_part_own h requests.Totals j is = absurd (cc)
+
+part_own : (h : Hub) (request : ClientRequest) (j : Key) → part_of h request ≡ Some j → IsOfClient request j
+part_own h asked.Begin j is = absurd (cc)
+part_own h (asked.LockAll k) j is = absurd (cc)
+part_own h (asked.Plain request) j is = plain_part_own h request j is
+part_own h (asked.Read request) j is = absurd (cc)
+
+makes_apart : (o : Option Key) (c : ℕ) (request : ClientRequest) (name out : List ℕ) (old new : Hub) → MakesBy o c request name old out new → IsLawful old.manager → (t : Key) → is_live old.manager.table t ≡ true
+    → ¬ IsOfClient request t → ((j : Key) → o ≡ Some j → IsOfClient request j) → StaysApart old t new
+makes_apart None c request name out old new did lawful t live other own = replies_apart c request name old did.reply did.effect new t did.replies lawful did.lawful.manager live other
+makes_apart (Some k) c request name out old new did lawful t live other own = part_apart k old out new t did lawful live (λ same. other (subst (IsOfClient request) same (own k refl)))
+
 serves_apart : (p : Permission) (c : ℕ) (request : ClientRequest) (name out : List ℕ) (old new : Hub) → ServesBy p c request name old out new → IsLawful old.manager → (t : Key) → is_live old.manager.table t ≡ true
     → (p ≡ permit.Make → ¬ IsOfClient request t) → StaysApart old t new
-serves_apart permit.Make c request name out old new did lawful t live other = replies_apart c request name old did.reply did.effect new t did.replies lawful did.lawful.manager live (other refl)
+serves_apart permit.Make c request name out old new did lawful t live other = makes_apart (part_of old request) c request name out old new did lawful t live (other refl) (part_own old request)
 serves_apart permit.NoTransaction c request name out old new (text, same) lawful t live other = same_stays old new t same live
 serves_apart permit.Operator c request name out old new (text, same) lawful t live other = same_stays old new t same live
 

@@ -11,7 +11,7 @@ use Rattle.mm_tagged_lists.specs.declared.spot.Spot.{Spot}
 use Rattle.mm_tagged_lists.specs.TaggedLists.{Listing, ListsMatchSpots, spot_at, list_at, freed}
 use Rattle.mm_tagged_lists.proofs.Lemmas.ListsMatchSpots.{in_no_list, in_range, list_at-freed, freed_matches, given_matches}
 use Rattle.mm_tagged_lists.proofs.Lemmas.Walk.{Among-head}
-use Rattle.mm_connections.specs.Begun.{aside_list, connection_in, connection_of, IsOf, listed, open_list, set_aside}
+use Rattle.mm_connections.specs.Begun.{aside_list, aside_by, connection_in, connection_of, IsOf, listed, now_aside, open_list, set_aside}
 
 pub none_here : (os : List (Option Spot)) (p : ℕ) → slice_index_or (slice_set os p None) p None ≡ None
 none_here os p = elim (cases_lt p (length os)) [
@@ -110,7 +110,7 @@ module _ (b : Listing) (n : ℕ) (k : Key) (process : k.process < length b.spots
       (freed_matches b k.process process matched)
 
 -- who is set aside is of the connection still, and all others are whose they were
-module _ (b : Listing) (c p generation : ℕ) (was : spot_at b p ≡ Some (record { list = open_list c; tag = generation })) (t : Key) where
+module _ (b : Listing) (c n p generation : ℕ) (half : n / 2 ≡ c) (was : spot_at b p ≡ Some (record { list = n; tag = generation })) (t : Key) where
   abbrev its_key : Key
   its_key = record { process = p; generation = generation }
 
@@ -120,12 +120,20 @@ module _ (b : Listing) (c p generation : ℕ) (was : spot_at b p ≡ Some (recor
   aside_here : t.process ≡ p → connection_of (set_aside b c its_key) t ≡ connection_of b t
   aside_here here =
       let now : connection_of (set_aside b c its_key) t ≡ connection_by (aside_list c) =
-      ap (λ o. connection_in o t.generation) (ap (spot_at (set_aside b c its_key)) here ∙ put_at b (aside_list c) its_key (kept_within b p (record { list = open_list c; tag = generation }) was)) in
-      let before : connection_of b t ≡ connection_by (open_list c) = ap (λ o. connection_in o t.generation) (ap (spot_at b) here ∙ was) in
-      now ∙ ap (λ n. if nat_eq generation t.generation then Some n else None) (half_aside c ∙ sym (half_open c)) ∙ sym before
+      ap (λ o. connection_in o t.generation) (ap (spot_at (set_aside b c its_key)) here ∙ put_at b (aside_list c) its_key (kept_within b p (record { list = n; tag = generation }) was)) in
+      let before : connection_of b t ≡ connection_by n = ap (λ o. connection_in o t.generation) (ap (spot_at b) here ∙ was) in
+      now ∙ ap (λ m. if nat_eq generation t.generation then Some m else None) (half_aside c ∙ sym half) ∙ sym before
 
   pub aside_same : connection_of (set_aside b c its_key) t ≡ connection_of b t
   aside_same = elim (cases_eq t.process p) [ inl here ↦ aside_here here | inr apart ↦ listed_else b (aside_list c) its_key t apart ]
+
+aside_by_same : (b : Listing) (k t : Key) (o : Option ℕ) → connection_of b k ≡ o → connection_of (aside_by b k o) t ≡ connection_of b t
+aside_by_same b k t None is = refl
+aside_by_same b k t (Some c) is = let at = kept b c k is in aside_same b c at.list k.process k.generation at.half at.at t
+
+-- so each transaction is whose it was, when one is set aside
+pub now_aside_same : (b : Listing) (k t : Key) → connection_of (now_aside b k) t ≡ connection_of b t
+now_aside_same b k t = aside_by_same b k t (connection_of b k) refl
 
 -- the list of a connection without its first process
 without_first : (p : ℕ) (xs : List ℕ) → (Among p xs → ⊥) → without p (p ∷ xs) ≡ xs

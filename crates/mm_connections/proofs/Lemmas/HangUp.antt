@@ -10,17 +10,17 @@ use Rattle.mm_tagged_lists.specs.TaggedLists.{Listing, ListsMatchSpots, spot_at,
 use Rattle.mm_tagged_lists.proofs.Lemmas.ListsMatchSpots.{in_its_list, list_at-freed}
 use Rattle.mm_rules.specs.TableState.{is_live}
 use Rattle.mm_manager.specs.LockState.{LockState, IsLawful}
-use Rattle.mm_manager.specs.Calls.{Aborts, Cancels}
+use Rattle.mm_manager.specs.Calls.{Aborts}
 use Rattle.mm_apart.proofs.Lemmas.Dead.{abort_keeps_dead, abort_own}
 use Rattle.mm_apart.proofs.Lemmas.Left.{as_it_was, left_left}
 use Rattle.mm_apart.proofs.Lemmas.Requests.{aborts, cancels}
 use Rattle.mm_manager.specs.declared.refusal.Refusal.{Refusal}
-use Rattle.mm_apart.proofs.Lemmas.Events.{withdrawal_live}
 use Rattle.mm_connections.specs.Apart.{StaysApart, HangUpEnds, HangUpLeavesNone, HangUpEndsLast}
 use Rattle.mm_connections.specs.Begun.{aside_list, connection_in, connection_of, has_any, has_first, IsOf, open_list}
 use Rattle.mm_connections.specs.Counts.{count_at}
 use Rattle.mm_connections.specs.Hub.{Hub}
 use Rattle.mm_connections.specs.Text.{Drops, DropsAll, HangsUp, SetsAside, SetsAllAside, to_end, to_set_aside}
+use Rattle.mm_connections.proofs.Lemmas.Parts.{cancel_live}
 use Rattle.mm_connections.proofs.Lemmas.Begun.{aside_same, freed_else, freed_here, half_aside, half_open, either_list, kept, of_spot}
 
 -- ---- one after the other
@@ -38,7 +38,7 @@ module _ (c p : ℕ) (old new : Hub) (one : SetsAside c p old new) (t : Key) whe
   its_key = record { process = p; generation = one.generation }
 
   aside_owner : connection_of new.begun t ≡ connection_of old.begun t
-  aside_owner = ap (λ (h : Hub). connection_of h.begun t) one.rest ∙ aside_same old.begun c p one.generation one.was t
+  aside_owner = ap (λ (h : Hub). connection_of h.begun t) one.rest ∙ aside_same old.begun c (open_list c) p one.generation (half_open c) one.was t
 
   aside_stays : IsLawful old.manager → is_live old.manager.table t ≡ true → ¬ IsOf old.begun c t → StaysApart old t new
   aside_stays lawful live other =
@@ -61,10 +61,6 @@ sets_stay c [] old new t same lawful live other = same_stays old new t same live
 sets_stay c (p ∷ ps) old new t (mid, one, rest) lawful live other =
     let first = aside_stays c p old mid one t lawful live other in
     stays_then old mid new t first (sets_stay c ps mid new t rest one.lawful first.left.live (λ own. other (sym first.owner ∙ own)))
-
-cancel_live : (old new : LockState) (k t : Key) (answer : Result (Unit {0}) Refusal) → Cancels old k answer new → is_live new.table t ≡ is_live old.table t
-cancel_live old new k t (Ok done) back = withdrawal_live old.table new.table k t back.made
-cancel_live old new k t (Err refusal) did = ap (λ (m : LockState). is_live m.table t) did.0
 
 sets_live : (c : ℕ) (ps : List ℕ) (old new : Hub) (t : Key) → SetsAllAside c ps old new → is_live new.manager.table t ≡ is_live old.manager.table t
 sets_live c [] old new t same = ap (λ (h : Hub). is_live h.manager.table t) same

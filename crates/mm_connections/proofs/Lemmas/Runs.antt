@@ -1,5 +1,5 @@
 -- Connections are apart over a run.
-use Rattle.std.proofs.Common.{◌≡◌, ℕ, Bool, true, false, List, [], ◌∷◌, drop, Result, Ok, Err, if◌then◌else◌, slice_set, inl, inr, refl, sym, ap, subst, ◌∙◌}
+use Rattle.std.proofs.Common.{◌≡◌, ℕ, Bool, true, false, List, [], ◌∷◌, drop, Option, Some, None, Result, Ok, Err, if◌then◌else◌, slice_set, inl, inr, refl, sym, ap, subst, ◌∙◌}
 use Rattle.mm_arena.specs.declared.key.Key.{Key}
 use Rattle.mm_lines.specs.Words.{words_of}
 use Rattle.mm_tagged_lists.specs.TaggedLists.{Listing}
@@ -11,7 +11,7 @@ use Rattle.mm_connections.specs.Begun.{connection_of, has_any}
 use Rattle.mm_connections.specs.Hub.{Hub}
 use Rattle.mm_connections.specs.Line.{said_of}
 use Rattle.mm_connections.specs.Permission.{permission_of}
-use Rattle.mm_connections.specs.Text.{Answers, AnswersSaid, BeginsAs, BeginsBy, DropsAll, RepliesTo, ServesBy, SetsAllAside, is_full, to_end, to_set_aside}
+use Rattle.mm_connections.specs.Text.{Answers, AnswersSaid, BeginsAs, BeginsBy, DropsAll, MakesBy, RepliesTo, ServesBy, SetsAllAside, is_full, part_of, to_end, to_set_aside}
 use Rattle.mm_connections.specs.declared.line.Said.{Said}
 use Rattle.mm_connections.specs.declared.line.Said.TheVariants as said
 use Rattle.mm_connections.specs.declared.permission.Permission.{Permission}
@@ -20,6 +20,7 @@ use Rattle.mm_connections.specs.declared.request.ClientRequest.{ClientRequest}
 use Rattle.mm_connections.specs.declared.request.ClientRequest.TheVariants as asked
 use Rattle.mm_connections.proofs.Lemmas.Apart.{lines_are_apart}
 use Rattle.mm_connections.proofs.Lemmas.HangUp.{same_stays, stays_then}
+use Rattle.mm_connections.proofs.Lemmas.Parts.{gives_options}
 
 -- ---- no line changes the numbers of the opening
 
@@ -37,8 +38,12 @@ replies_options c (asked.LockAll k) name old reply effect new (stop, all, text, 
 replies_options c (asked.Plain request) name old reply effect new did = ap (λ (h : Hub). h.options) did.rest
 replies_options c (asked.Read request) name old reply effect new (read, came, same) = ap (λ (h : Hub). h.options) same
 
+makes_options : (o : Option Key) (c : ℕ) (request : ClientRequest) (name out : List ℕ) (old new : Hub) → MakesBy o c request name old out new → new.options ≡ old.options
+makes_options None c request name out old new did = replies_options c request name old did.reply did.effect new did.replies
+makes_options (Some k) c request name out old new part = gives_options None k 1024 part.idle part.told new part.gives ∙ ap (λ (h : Hub). h.options) part.rest
+
 serves_options : (p : Permission) (c : ℕ) (request : ClientRequest) (name out : List ℕ) (old new : Hub) → ServesBy p c request name old out new → new.options ≡ old.options
-serves_options permit.Make c request name out old new did = replies_options c request name old did.reply did.effect new did.replies
+serves_options permit.Make c request name out old new did = makes_options (part_of old request) c request name out old new did
 serves_options permit.NoTransaction c request name out old new (text, same) = ap (λ (h : Hub). h.options) same
 serves_options permit.Operator c request name out old new (text, same) = ap (λ (h : Hub). h.options) same
 

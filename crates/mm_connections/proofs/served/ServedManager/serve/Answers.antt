@@ -14,22 +14,10 @@ pub returns-in-Make-clause-serves : goal.returns-in-Make-clause-serves
 returns-in-Make-clause-serves g c =
     let becomes = sym c.in-Make.is ∙ c.permission_of.ensures in
     let n = c.args.heard.connection in
-    let did = c.make.ensures.makes in
-    let new : Hub = hub_of c.make.new.self in
-    let kept = c.args.output.now.items in
-    let head = decimal n ++ codes " " in
-    let caused = events_text n c.args.heard.request c.args.heard.name.now new did.1 in
-    let text = to n did.0 ++ caused in
-    let P = λ (p : Permission). ServesBy p n c.args.heard.request c.args.heard.name.now (hub_of c.args.self.now) text new in
-    let W = λ (l : List ℕ). Writes (g.W.Write.contents c.args.writer.now) (g.W.Write.contents c.make.new.writer) (kept ++ l) did.2 in
-    let written = writes_after _ _ kept head c.print_to.new.output.items (did.0 ++ caused) did.2 c.print_to.ensures.added did.5 in (
-      text,
-      did.2,
-      record { manager = c.keeps_laws.ensures; lists = c.keeps_laws-2.ensures },
-      subst P becomes (record { reply = did.0; effect = did.1; replies = did.3; lawful = did.4; text = refl }),
-      subst W (sym (append_assoc head did.0 caused)) written,
-      did.6,
-    )
+    let did = c.make_or_end.ensures.makes in
+    let new : Hub = hub_of c.make_or_end.new.self in
+    let P = λ (p : Permission). ServesBy p n c.args.heard.request c.args.heard.name.now (hub_of c.args.self.now) did.0 new in
+    (did.0, did.1, record { manager = c.keeps_laws.ensures; lists = c.keeps_laws-2.ensures }, subst P becomes did.2, did.3, did.4)
 
 pub returns-in-NoTransaction-clause-serves : goal.returns-in-NoTransaction-clause-serves
 returns-in-NoTransaction-clause-serves g c =
