@@ -17,7 +17,7 @@
  *   3. Pointers are valid and not NULL, and what a call writes does not overlap what it reads. With length 0 a name is not read.
  *   4. No call in a signal handler, and none in the child of a fork for a manager of its parent (the child would exclude nobody).
  *
- * Memory. pashkure_open takes all of it, from malloc: at most (name_bytes + 71) * names + 85 * transactions + 1,000 bytes. pashkure_close
+ * Memory. pashkure_open takes all of it, from malloc: at most (name_bytes + 71) * names + 85 * transactions + 1,100 bytes. pashkure_close
  * gives all of it back, by free. No other call takes memory, so none fails for want of it.
  *
  * Time. Each call takes constant time, but: a name is hashed and compared; an end hands on each name that the transaction owns; a request

@@ -490,7 +490,7 @@ TEST(bytes_of_an_open)
         config.transactions = SIZES[i][0];
         config.names = SIZES[i][1];
         config.name_bytes = SIZES[i][2];
-        most = (config.name_bytes + 71ul) * config.names + 85ul * config.transactions + 1000;
+        most = (config.name_bytes + 71ul) * config.names + 85ul * config.transactions + 1100;
         bytes = 0;
         GIVES(pashkure_open(&locks, &config), PASHKURE_OK);
         CHECK(bytes <= most && bytes >= most - most / 50 - 200);

@@ -277,8 +277,8 @@ TEST(refusals)
     shut();
 }
 
-/* A transaction may own its first sixteen names, of which the manager does not know, and names_each further ones. Its neighbour goes on, and once
- * it has asked for one of the sixteen that one counts too. */
+/* A transaction may own its first sixteen names, of which the manager does not know, and names_each further ones. Its neighbour goes on, and an
+ * unlock makes room for one. */
 TEST(names_each)
 {
     pashkure_config config = PASHKURE_CONFIG;
@@ -293,7 +293,8 @@ TEST(names_each)
     GIVES(lock(b, "more", 0), PASHKURE_OK);
     GIVES(lock(b, "A", 0), PASHKURE_BUSY);
     GIVES(pashkure_locks_unlock(locks, a, "T", 1), PASHKURE_OK);
-    GIVES(lock(a, "T", 0), PASHKURE_TOO_MANY_NAMES);
+    GIVES(lock(a, "T", 0), PASHKURE_OK);
+    GIVES(lock(a, "U", 0), PASHKURE_TOO_MANY_NAMES);
     ends(a);
     GIVES(lock(b, "T", 0), PASHKURE_OK);
     ends(b);

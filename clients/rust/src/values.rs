@@ -9,7 +9,7 @@ pub(crate) fn random() -> u64 {
     RandomState::new().build_hasher().finish()
 }
 
-/// The numbers with which a manager is opened. It takes at most `(name_bytes + 71) * names + 85 * transactions + 1,000` bytes, and
+/// The numbers with which a manager is opened. It takes at most `(name_bytes + 71) * names + 85 * transactions + 1,100` bytes, and
 /// [`Locks`](crate::Locks) 16 bytes more a bucket, 12 a name, and some 4,600 a transaction.
 #[derive(Clone, Debug)]
 pub struct Config {
