@@ -80,7 +80,7 @@ events_text c request about h effects.Nothing = []
 
 -- ---- a part of an end
 
--- k gives back a name that it owns, as by an unlock: the one it got last. Who is granted it is told, but not connection `but`
+-- k gives back a name that it owns, as by an unlock, whichever it is. Who is granted it is told, but not connection `but`
 pub record GivesBack (but : Option ℕ) (k : Key) (old : Hub) (out : List ℕ) (new : Hub) : Type 0 where
   pub answer : Result (Unit {0}) Refusal
   pub did : UnlockedAny old.manager k answer new.manager
