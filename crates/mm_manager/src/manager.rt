@@ -128,9 +128,14 @@ impl LockManager {
     ///   that way has given something back is told so again.
     ///
     /// Nobody else's owners or waits change. Refused as `NoTransaction`, `Waiting`, `CountsFull`, `NameEmpty`, `NameTooLong`, `TooManyNames`,
-    /// `NamesFull` or `LabelsFull`, which are tested in this order: as `CountsFull` if `begin` is, as `TooManyNames` if the transaction owns as many
-    /// names as it may, and not this one, as `NamesFull` if nobody owns the name and all numbers are taken, and as `LabelsFull` if another transaction owns it, and half as many requests were answered `Waits` or `Deadlock` as labels can
-    /// be high, 8,796,093,022,207. `O(length)` if nobody else owns it; a wait and a deadlock cost the settle that follows.
+    /// `NamesFull` or `LabelsFull`, which are tested in this order:
+    /// - as `CountsFull` if `begin` is;
+    /// - as `TooManyNames` if the transaction owns as many names as it may, and not this one;
+    /// - as `NamesFull` if nobody owns the name and all numbers are taken;
+    /// - as `LabelsFull` if another transaction owns it, and half as many requests were answered `Waits` or `Deadlock` as labels can be high,
+    ///   8,796,093,022,207.
+    ///
+    /// `O(length)` if nobody else owns it; a wait and a deadlock cost the settle that follows.
     // In place: it is one call itself, of `NamedTable::lock`.
     #[inline(always)]
     pub fn lock(&mut self, key: Key, name: &[u8]) -> Result<Lock, Refusal>

@@ -1,5 +1,5 @@
 //! The hash of a name.
-ghost use Rattle.std.specs.Prelude.{◌≡◌, ◌+◌, ◌<◌, ◌≤◌, length, bit_xor};
+ghost use Rattle.std.specs.Prelude.{◌≡◌, ◌+◌, ◌<◌, ◌≤◌, length};
 ghost use Rattle.std.specs.Hash.FoldHasher.{folded_multiply, read_u32, read_u64, read_short};
 
 use std::hash::{DefaultHasher, Hasher};
@@ -7,10 +7,14 @@ use std::hash::{DefaultHasher, Hasher};
 /// How many bytes of a name go into one step of its hash.
 const BLOCK: usize = 16;
 
+/// What the length of a name is multiplied by: 2⁶⁴ times the golden ratio, so that lengths lead to lists far apart.
+const LENGTH_FACTOR: u64 = 0x9E37_79B9_7F4A_7C15;
+
 /// What names are hashed with: two numbers that come of the seed.
 ///
 /// A step takes two words of the name, joins each with one of the numbers by `^`, multiplies them to 128 bits, and joins the halves of
-/// the product by `^`, as wyhash and foldhash do. For somebody who knows neither the seed nor how long calls take, no way is
+/// the product by `^`, as wyhash and foldhash do. The length, times a constant, is added last: joined with a word, it could be undone by another
+/// word, and `2` and `12` would have one hash by each seed. For somebody who knows neither the seed nor how long calls take, no way is
 /// known to choose names of one hash. This is not proved. With the seed names of one hash can be chosen.
 #[derive(Clone, Copy)]
 pub struct NameHash {
@@ -19,7 +23,7 @@ pub struct NameHash {
 }
 
 impl NameHash {
-    ghost use Rattle.mm_names.specs.Hash.{hash_by, hash_of, last_step};
+    ghost use Rattle.mm_names.specs.Hash.{hash_by, hash_of, last_step, steps_of};
 
     /// Returns the hash by the numbers that SipHash-1-3 makes of this seed.
     pub fn new(seed: u64) -> NameHash
@@ -41,21 +45,21 @@ impl NameHash {
     pub fn of(&self, name: &[u8]) -> u64
         ensures { result ≡ hash_of self.now name.now }
     {
-        let state = self.first ^ name.len() as u64;
-        if name.len() <= BLOCK {
-            return self.last_step(state, name);
-        }
-        self.of_long(state, name)
+        let words = if name.len() <= BLOCK {
+            self.last_step(self.first, name)
+        } else {
+            self.of_long(name)
+        };
+        words.wrapping_add((name.len() as u64).wrapping_mul(LENGTH_FACTOR))
     }
 
-    /// Returns the hash of a name of more than one block, in `O(length)`.
-    fn of_long(&self, start: u64, name: &[u8]) -> u64
+    /// Returns what the steps make of a name of more than one block, in `O(length)`.
+    fn of_long(&self, name: &[u8]) -> u64
         requires long { 16 < length name.now }
-        requires start { start ≡ bit_xor self.now.first (length name.now) }
-        ensures { result ≡ hash_of self.now name.now }
+        ensures { result ≡ steps_of self.now name.now }
     {
         let blocks = (name.len() - 1) / BLOCK;
-        let mut state = start;
+        let mut state = self.first;
         for block in 0..blocks {
             let at = BLOCK * block;
             state = folded(word(name, at) ^ state, word(name, at + 8) ^ self.second);

@@ -1,10 +1,11 @@
 -- Who owns what: the sizes and the owners after a resource is given or freed, and that the list of each process has what it owns by the state.
 use Rattle.std.proofs.Common.{nat_eq, true, false, IsTrue, ◌≡◌, ◌≢◌, ℕ, ◌<◌, List, [], ◌∷◌, Option, Some, None, option_map, inl, inr, refl, ap, sym, ◌∙◌, arith, subst, map, set, length}
-use Rattle.std.proofs.lemmas.Bool.{cases_Bool, eq-eqb, eqb-true}
+use Rattle.std.proofs.lemmas.Bool.{cases_Bool, and_parts, eq-eqb, eqb-true}
 use Rattle.std.proofs.lemmas.List.{map-set}
 use Rattle.std.proofs.Math.ListN.{get_or-map}
 use Rattle.std.specs.List.{range_with_len}
 use Rattle.std.specs.Option.{option_map_or}
+use Rattle.std.specs.Prelude.{slice_index, slice_index_or}
 use Rattle.mm_arena.specs.declared.key.Key.{Key}
 use Rattle.mm_lists.specs.Members.{Among, NoRepeat, head}
 use Rattle.mm_tagged_lists.specs.declared.spot.Spot.{Spot}
@@ -15,7 +16,7 @@ use Rattle.mm_rules.specs.declared.config.Config.{Config}
 use Rattle.mm_table.specs.declared.records.Records.TheInside.{Inside}
 use Rattle.mm_table.specs.declared.labels.ProcessLabels.{ProcessLabels}
 use Rattle.mm_transactions.specs.Transactions.{Transactions}
-use Rattle.mm_rules.specs.TableState.{TableState, owns, resources_of}
+use Rattle.mm_rules.specs.TableState.{TableState, is_live, owns, resources_of}
 use Rattle.mm_rules.specs.Change.{hand_over_fits, vacate_fits}
 use Rattle.mm_table.specs.private.Records.{FieldsAreSized, IsConsistent, key_of, owners_of, state_of_records}
 use Rattle.mm_lists.proofs.Lemmas.Filter.{filter_gives, filter_keeps}
@@ -109,3 +110,14 @@ module _ (s : TableState) (owned : Listing) (lists : Listed s owned) (n : ℕ) w
       empty : (rs : List ℕ) → ((r : ℕ) → Among r rs → ⊥) → rs ≡ []
       empty [] none = refl
       empty (r ∷ rs) none = absurd (none r (inl refl))
+
+generation_is : (s : TableState) (k : Key) → IsTrue (is_live s k) → slice_index s.generations k.process ≡ k.generation
+generation_is s k live =
+    let parts = and_parts (slice_index_or s.live k.process false) (nat_eq (slice_index s.generations k.process) k.generation) live in
+    eqb-true (slice_index s.generations k.process) k.generation parts.1
+
+-- a process has one live key
+pub one_key : (s : TableState) (j k : Key) → IsTrue (is_live s j) → IsTrue (is_live s k) → j.process ≡ k.process → j ≡ k
+one_key s j k live_j live_k same =
+    let generation : j.generation ≡ k.generation = sym (generation_is s j live_j) ∙ ap (slice_index s.generations) same ∙ generation_is s k live_k in
+    ap (λ n. record { process = n; generation = j.generation }) same ∙ ap (λ g. record { process = k.process; generation = g }) generation

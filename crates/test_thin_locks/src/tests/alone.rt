@@ -77,8 +77,7 @@ pub fn is_refused_a_bulk<R: Wait + Clock + Abort>(rt: &R, locks: &ThinLocks) -> 
     let mut session = session(rt, locks);
     let mut transaction = session.begin();
     let mut owned = 0u64;
-    // All but `1` and `2`, which has one hash with `12`.
-    for name in &NAMES[2..] {
+    for name in NAMES {
         match is_done(transaction.lock(name)) {
             Err(LockError::TooManyNames) => same(rt, told(rt, locks, name), Ok(true)),
             answer => {

@@ -1,11 +1,11 @@
-use Rattle.std.proofs.Common.{◌≡◌, ◌-◌, ◌*◌, ◌/◌, length, take, drop, ap, ◌∙◌, arith, add-one}
+use Rattle.std.proofs.Common.{◌≡◌, ◌-◌, ◌*◌, ◌/◌, length, take, drop, refl, ap, ◌∙◌, arith, add-one}
 use Rattle.std.proofs.lemmas.List.{take_all, length-drop}
-use Rattle.mm_names.specs.Hash.{after_blocks, last_step, hash_of}
+use Rattle.mm_names.specs.Hash.{after_blocks, last_step, steps_of}
 use Rattle.mm_names.proofs.hash.NameHash.of_long.Goals as goal
 
 pub loop-block-init : goal.loop-block-init
 unfolding after_blocks
-loop-block-init c = c.requires.start
+loop-block-init c = refl
 
 pub loop-block-preserved : goal.loop-block-preserved
 unfolding after_blocks
@@ -13,7 +13,7 @@ loop-block-preserved c =
     rw (add-one c.loop-block.block, c.folded-state.ensures, c.word.ensures, c.word-in-loop-block.ensures, c.loop-block.invariant)
 
 pub returns : goal.returns
-unfolding hash_of
+unfolding steps_of
 returns c =
     let h = c.args.self.now in
     let name = c.args.name.now in

@@ -8,19 +8,8 @@ use Rattle.mm_rules.specs.Laws.{Laws}
 use Rattle.mm_rules.specs.TableState.{TableState, is_live, owner_of, owns}
 use Rattle.mm_rules.proofs.States.Release.{owns_gives}
 use Rattle.mm_tagged_lists.specs.TaggedLists.{Listing, list_at}
-use Rattle.mm_table.proofs.Fields.Ownership.{Listed, listed}
+use Rattle.mm_table.proofs.Fields.Ownership.{Listed, listed, one_key}
 use Rattle.mm_table.proofs.records.Records.any_owned_live.Goals as goal
-
-generation_is : (s : TableState) (k : Key) → IsTrue (is_live s k) → slice_index s.generations k.process ≡ k.generation
-generation_is s k live =
-    let parts = and_parts (slice_index_or s.live k.process false) (nat_eq (slice_index s.generations k.process) k.generation) live in
-    eqb-true (slice_index s.generations k.process) k.generation parts.1
-
--- a process has one live key
-one_key : (s : TableState) (j k : Key) → IsTrue (is_live s j) → IsTrue (is_live s k) → j.process ≡ k.process → j ≡ k
-one_key s j k live_j live_k same =
-    let generation : j.generation ≡ k.generation = sym (generation_is s j live_j) ∙ ap (slice_index s.generations) same ∙ generation_is s k live_k in
-    ap (λ n. record { process = n; generation = j.generation }) same ∙ ap (λ g. record { process = k.process; generation = g }) generation
 
 none_among : (xs : List ℕ) (r : ℕ) → None ≡ head xs → Among r xs → ⊥
 none_among [] r none among = among

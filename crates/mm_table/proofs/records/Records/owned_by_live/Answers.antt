@@ -6,19 +6,8 @@ use Rattle.mm_arena.specs.declared.key.Key.{Key}
 use Rattle.mm_lists.specs.Members.{Among, NoRepeat}
 use Rattle.mm_rules.specs.TableState.{TableState, is_live, owns}
 use Rattle.mm_rules.proofs.States.Release.{owns_gives}
-use Rattle.mm_table.proofs.Fields.Ownership.{listed}
+use Rattle.mm_table.proofs.Fields.Ownership.{listed, one_key}
 use Rattle.mm_table.proofs.records.Records.owned_by_live.Goals as goal
-
-generation_is : (s : TableState) (k : Key) → IsTrue (is_live s k) → slice_index s.generations k.process ≡ k.generation
-generation_is s k live =
-    let parts = and_parts (slice_index_or s.live k.process false) (nat_eq (slice_index s.generations k.process) k.generation) live in
-    eqb-true (slice_index s.generations k.process) k.generation parts.1
-
--- a process has one live key
-one_key : (s : TableState) (j k : Key) → IsTrue (is_live s j) → IsTrue (is_live s k) → j.process ≡ k.process → j ≡ k
-one_key s j k live_j live_k same =
-    let generation : j.generation ≡ k.generation = sym (generation_is s j live_j) ∙ ap (slice_index s.generations) same ∙ generation_is s k live_k in
-    ap (λ n. record { process = n; generation = j.generation }) same ∙ ap (λ g. record { process = k.process; generation = g }) generation
 
 pub returns-clause-listed : goal.returns-clause-listed
 returns-clause-listed c =
