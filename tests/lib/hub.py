@@ -10,9 +10,9 @@ CONNECTIONS = 5
 """Those of a service that answers inputs."""
 OPERATOR = 0
 PART = 256
-"""How many transactions of one that hangs up are set aside by one line, and how many end."""
+"""How many transactions of one that hangs up are set aside by one line, and how many end at most."""
 END_PART = 1024
-"""How many names of a transaction are given back by one line that ends it, if it owns more."""
+"""How many names are given back at most by one line that hangs up, or that ends a transaction which owns more."""
 OPERATOR_MAY = {b"owner", b"totals", b"graph", b"status", b"holds", b"abort", b"hello", b"list", b"counts"}
 OPERATORS = {b"graph", b"list", b"counts"}
 ENDS = {b"commit", b"abort"}
@@ -103,22 +103,30 @@ class Hub:
 
     # -- ends by parts
 
-    def ends_by_parts(self, word: bytes, key: bytes) -> bool:
+    def owned(self, key: bytes) -> int:
+        """How many names a transaction owns; none if it has ended."""
         process = self.service.keys.get(key)
-        if process is None or len(self.service.names[process]) <= END_PART:
+        return 0 if process is None else len(self.service.names[process])
+
+    def ends_by_parts(self, word: bytes, key: bytes) -> bool:
+        if self.owned(key) <= END_PART:
             return False
-        return word == b"abort" or process not in self.service.table.wait
+        return word == b"abort" or self.service.keys[key] not in self.service.table.wait
 
     def end_part(self, key: bytes) -> list[bytes]:
-        """Takes back the wait of a transaction, and gives back the names that it was granted last. The line is to be sent again."""
-        process, lines = self.service.keys[key], []
+        """Takes back the wait of a transaction, and gives back a part of its names. The line is to be sent again."""
         if key not in self.aside:
             self.aside.insert(0, key)
         self.service.make(b"cancel", key)
+        return [*self.give_back(key), b"* more " + key]
+
+    def give_back(self, key: bytes) -> list[bytes]:
+        """Gives back the names that a transaction was granted last."""
+        process, lines = self.service.keys[key], []
         for _ in range(END_PART):
             _, *events = self.service.make(b"unlock", key, self.service.names[process][-1])
             lines += self.told(events)
-        return [*lines, b"* more " + key]
+        return lines
 
     # -- several names
 
@@ -183,16 +191,27 @@ class Hub:
 
     def hang_up(self, connection: int) -> "list[bytes]":
         """A part of a hang-up: first the waits of all transactions are taken back, part by part, and then they end."""
-        lines: "list[bytes]" = []
         for key in [key for key in self.own(connection) if key not in self.aside][:PART]:
             self.service.make(b"cancel", key)
             self.aside.insert(0, key)
-        own = self.own(connection)
-        for key in [key for key in self.aside if key in own][:PART] if {*own} <= {*self.aside} else []:
+        own = {*self.own(connection)}
+        lines = self.end_front([key for key in self.aside if key in own]) if own <= {*self.aside} else []
+        return [*lines, (b"* more %d" if self.own(connection) else b"- %d") % connection]
+
+    def end_front(self, keys: "list[bytes]") -> "list[bytes]":
+        """Ends the first of these transactions that own END_PART names in all at most, or gives back so many of the first one."""
+        if keys and self.owned(keys[0]) > END_PART:
+            return self.give_back(keys[0])
+        lines: "list[bytes]" = []
+        left = END_PART
+        for key in keys[:PART]:
+            left -= self.owned(key)
+            if left < 0:
+                break
             _, *events = self.service.make(b"abort", key)
             lines += self.told(events)
             del self.began[key]
-        return [*lines, (b"* more %d" if self.own(connection) else b"- %d") % connection]
+        return lines
 
 
 def answers(data: bytes) -> tuple[int, bytes]:

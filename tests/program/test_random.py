@@ -1,4 +1,5 @@
 """Random scripts and requests: what is kept in tests/corpus, those of one seed, and those of a new seed, each as a model answers."""
+import itertools
 import os
 import random
 
@@ -106,15 +107,16 @@ class Many(Case):
         return key
 
     def test_ends_by_parts(self) -> None:
-        """One commits and one is aborted, both by parts, between which others ask for their names and the operator looks; a third one hangs up."""
+        """One commits and one is aborted, both by parts, and a client hangs up, while others ask for names and the operator looks."""
         self.lines, self.wanted, chance = [], [], random.Random(SEED)  # type: ignore[var-annotated]
         self.hub = hub.Hub(5, each=40, transactions=64, names=self.NAMES + 9_000)
         names = [b"%d" % number for number in range(self.NAMES + 6_000)]
         chance.shuffle(names)
-        own = names[: self.NAMES], names[self.NAMES : self.NAMES + 3_000], names[self.NAMES + 3_000 :]
-        first, second, _ = (self.own(connection, some) for connection, some in zip((1, 2, 3), own))
+        left = iter(names)
+        own = [[*itertools.islice(left, size)] for size in (self.NAMES, 3_000, 1_500, 500, 500, 500)]
+        first, second, *_ = [self.own(connection, some) for connection, some in zip((1, 2, 3, 3, 3, 3), own)]
         for some in own:
-            for name in chance.sample(some, 8):
+            for name in chance.sample(some, 4):
                 self.say(b"4 begin %b" % name)
         for after in chance.sample(own[0], 8):
             self.say(b"1 holds %b %b" % (first, after))
@@ -124,7 +126,8 @@ class Many(Case):
             if not any(said.startswith(b"* more ") for said in self.say(line)):
                 ends.remove(line)
             chance.choice([lambda: self.say(b"4 begin %b" % chance.choice(names)), lambda: self.say(b"0 list"), lambda: self.say(b"0 counts")])()
-        self.say(b"- 3")
+        while self.say(b"- 3")[-1] != b"- 3":
+            self.say(b"4 begin %b" % chance.choice(names))
         self.say(b"0 totals")
         told = run(search.PROGRAM, "locks", "--connections", "5", "--each", "40", "--transactions", "64", "--names", str(self.NAMES + 9_000),
                    given=b"".join(line + b"\n" for line in self.lines))  # fmt: skip

@@ -31,6 +31,15 @@ is_open_in c generation (Some o) = nat_eq o.tag generation && nat_eq (o.list % 2
 abbrev pub is_open : Listing → ℕ → Key → Bool
 is_open begun c k = is_open_in c k.generation (spot_at begun k.process)
 
+-- the transaction of the slot that has this spot
+abbrev pub key_in : ℕ → Option Spot → Key
+key_in p None = record { process = p; generation = 0 }
+key_in p (Some o) = record { process = p; generation = o.tag }
+
+-- the last transaction of the slot, if it is a connection's
+abbrev pub last_of : Listing → ℕ → Key
+last_of begun p = key_in p (spot_at begun p)
+
 -- the connection began the transaction, and it was not dropped since
 abbrev pub IsOf : Listing → ℕ → Key → Type 0
 IsOf begun c k = connection_of begun k ≡ Some c

@@ -1,5 +1,5 @@
 -- What a connection is answered. What a request does, and its reply, are those of a service without connections (mm_service): here stands who is told what.
-use Rattle.std.specs.Prelude.{◌≡◌, ℕ, zero, suc, Bool, true, false, List, [], ◌∷◌, ◌++◌, drop, take, Option, Some, None, is_some, Result, Ok, Err, codes, decimal, nat_eq, nat_le, nat_lt, if◌then◌else◌, slice_index_or, slice_set}
+use Rattle.std.specs.Prelude.{◌≡◌, ◌<◌, ◌≤◌, ◌-◌, ◌⊎◌, ℕ, zero, suc, Bool, true, false, List, [], ◌∷◌, ◌++◌, drop, take, Option, Some, None, is_some, Result, Ok, Err, codes, decimal, nat_eq, nat_le, nat_lt, if◌then◌else◌, slice_index_or, slice_set}
 use Rattle.mm_arena.specs.declared.key.Key.{Key}
 use Rattle.mm_arena.specs.Key.{key_text}
 use Rattle.mm_tagged_lists.specs.TaggedLists.{Listing, spot_at, list_at, freed}
@@ -21,7 +21,7 @@ use Rattle.mm_service.specs.declared.line.Request.{Request}
 use Rattle.mm_service.specs.declared.line.Request.TheVariants as requests
 use Rattle.mm_service.specs.declared.requests.KeyRequest.{KeyRequest}
 use Rattle.mm_service.specs.declared.requests.KeyRequest.TheVariants as of_key
-use Rattle.mm_connections.specs.Begun.{aside_list, begun_by, connection_of, has_any, has_first, now_aside, open_list, set_aside}
+use Rattle.mm_connections.specs.Begun.{IsOf, aside_list, begun_by, connection_of, has_any, has_first, last_of, now_aside, open_list, set_aside}
 use Rattle.mm_connections.specs.Counts.{after_end, count_at, counted, one_more}
 use Rattle.mm_connections.specs.Hub.{Hub, IsLawfulHub, to, to_any}
 use Rattle.mm_connections.specs.Line.{said_of}
@@ -217,16 +217,36 @@ pub record Drops (c p : ℕ) (old : Hub) (out : List ℕ) (new : Hub) : Type 0 w
   pub rest : new ≡ record old { manager = new.manager; begun = freed old.begun p; counts = after_end answer old.counts c }
   pub text : out ≡ told_text (Some c) new
 
--- those of these slots, one after the other
-abbrev pub DropsAll : ℕ → List ℕ → Hub → List ℕ → Hub → Type 0
-DropsAll c [] old out new = (out ≡ []) × (new ≡ old)
-DropsAll c (p ∷ ps) old out new = (mid : Hub) × (first : List ℕ) × (rest : List ℕ) × Drops c p old first mid × DropsAll c ps mid rest new × (out ≡ first ++ rest)
+-- how many names the last transaction of the slot owns
+abbrev pub names_at : Hub → ℕ → ℕ
+names_at h p = owned_count h.manager.table (last_of h.begun p)
+
+-- those of these slots, one after the other, up to the first one that owns more names than are left of so many
+abbrev pub DropsAll : ℕ → ℕ → List ℕ → Hub → List ℕ → Hub → Type 0
+DropsAll c left [] old out new = (out ≡ []) × (new ≡ old)
+DropsAll c left (p ∷ ps) old out new =
+    ((left < names_at old p) × (out ≡ []) × (new ≡ old))
+    ⊎ ((mid : Hub) × (first : List ℕ) × (rest : List ℕ) × (names_at old p ≤ left) × Drops c p old first mid × DropsAll c (left - names_at old p) ps mid rest new × (out ≡ first ++ rest))
+
+-- the transaction of the first of these slots, if it owns more names than END_PART
+abbrev pub long_first : Hub → List ℕ → Option Key
+long_first h [] = None
+long_first h (p ∷ ps) = many h (last_of h.begun p)
+
+-- who owns more than END_PART names gives back so many, and is the connection's still; else those of these slots end that own so many in all
+abbrev pub EndsBy : Option Key → ℕ → List ℕ → Hub → List ℕ → Hub → Type 0
+EndsBy None c ps old out new = DropsAll c END_PART ps old out new
+EndsBy (Some k) c ps old out new = IsOf old.begun c k × GivesBackMany (Some c) k END_PART old out new
+
+-- those at the front of these slots end, or a part of the first one, so that END_PART names are given back at most
+abbrev pub EndsFront : ℕ → List ℕ → Hub → List ℕ → Hub → Type 0
+EndsFront c ps old out new = EndsBy (long_first old ps) c ps old out new
 
 -- the slots whose transactions a line sets aside: a part of those that are left to be, the one begun last first
 abbrev pub to_set_aside : Listing → ℕ → List ℕ
 to_set_aside begun c = take HANG_UP_PART (list_at begun (open_list c))
 
--- and those whose transactions it ends, after that: none while one is left to be set aside
+-- and those whose transactions it may end, after that: none while one is left to be set aside
 abbrev pub to_end : Listing → ℕ → List ℕ
 to_end begun c = if has_first begun (open_list c) then [] else take HANG_UP_PART (list_at begun (aside_list c))
 
@@ -239,13 +259,13 @@ abbrev pub hang_up_text : Bool → ℕ → List ℕ
 hang_up_text true c = line_text (codes "* more " ++ decimal c)
 hang_up_text false c = line_text (codes "- " ++ decimal c)
 
--- a part of the hang-up of connection c: a part of its transactions take back their waits, and a part of them end once all have done so. Others are told what that caused
+-- a part of the hang-up of connection c: a part of its transactions take back their waits, and once all have done so a part of them end. Others are told what that caused
 pub record HangsUp (c : ℕ) (old : Hub) (out : List ℕ) (new : Hub) : Type 0 where
   pub aside : Hub
   pub sets : SetsAllAside c (to_set_aside old.begun c) old aside
   pub told : List ℕ
   pub last : Hub
-  pub drops : DropsAll c (to_end aside.begun c) aside told last
+  pub ends : EndsFront c (to_end aside.begun c) aside told last
   pub rest : new ≡ closed c last
   pub lawful : IsLawfulHub new
   pub text : out ≡ told ++ hang_up_text (has_any last.begun c) c

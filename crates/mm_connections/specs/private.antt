@@ -1,3 +1,4 @@
+pub mod Fits
 pub mod Long
 pub mod Made
 pub mod Request

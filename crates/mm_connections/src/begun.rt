@@ -132,20 +132,26 @@ impl Begun {
         }
     }
 
-    /// Takes the first process of a connection that is set aside, which is nobody's from now on, and returns its last transaction, in constant
-    /// time.
-    pub fn take_first_aside(&mut self, connection: u32) -> Option<Key>
-        requires { aside_list connection < length self.old.lists }
-        ensures taken { MatchOption result ((list_at self.old (aside_list connection) ≡ []) × (self.new ≡ self.old))
-            (λ key. (self.new ≡ freed self.old key.process) × (head (list_at self.old (aside_list connection)) ≡ Some key.process)
-            × (spot_at self.old key.process ≡ Some (record { list = aside_list connection; tag = key.generation }))) }
+    /// Returns the last transaction of the first process of a connection that is set aside, in constant time.
+    pub fn first_aside(&self, connection: u32) -> Option<Key>
+        requires { aside_list connection < length self.now.lists }
+        ensures first { MatchOption result (list_at self.now (aside_list connection) ≡ []) (λ key. (head (list_at self.now (aside_list connection)) ≡ Some key.process)
+            × (spot_at self.now key.process ≡ Some (record { list = aside_list connection; tag = key.generation }))) }
+        ensures within { IfSome result (λ key. key.process < length self.now.spots) }
+    {
+        let _count = self.lists_len;
+        self.first(connection * 2 + 1)
+    }
+
+    /// Takes a process out of its list: it is nobody's from now on. Constant time.
+    pub fn free(&mut self, process: u32)
+        requires { process < length self.old.spots }
+        ensures freed { self.new ≡ freed self.old process }
         ensures lists { length self.new.lists ≡ length self.old.lists }
         ensures spots { length self.new.spots ≡ length self.old.spots }
     {
         let _count = self.lists_len;
-        let key = self.first(connection * 2 + 1)?;
-        self.lists.remove(key.process);
-        Some(key)
+        self.lists.remove(process);
     }
 
     /// Returns whether a connection has processes that are not set aside, in constant time.

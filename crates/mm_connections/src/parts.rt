@@ -1,12 +1,12 @@
 //! A transaction of many names ends by parts, so that others have their turns between them.
-ghost use Rattle.std.specs.Prelude.{◌≡◌, ◌≤◌, ◌+◌, ◌*◌, ◌%◌, ◌++◌, ℕ, List, None, length, is_some, if◌then◌else◌, OnOk, IsOkUnless};
+ghost use Rattle.std.specs.Prelude.{◌≡◌, ◌≤◌, ◌+◌, ◌*◌, ◌%◌, ◌++◌, ℕ, List, None, Err, length, is_some, if◌then◌else◌, MatchResult, OnOk, IsOkUnless};
 ghost use Rattle.arrayvec.specs.ArrayVec.{array_vec_len};
 ghost use Rattle.mm_lines.specs.Output.{Prints, Writes};
 ghost use Rattle.mm_connections.specs.Hub.{IsLawfulHub};
 ghost use Rattle.mm_connections.specs.Text.{EndsPart, GivesBackMany, many, more_text, part_of, part_of_key};
 
 use crate::request::ClientRequest;
-use crate::served::{MAX_ANSWER, ServedManager};
+use crate::served::ServedManager;
 use mm_lines::{Fault, OUTPUT_LEN, Output, make_room, print_key};
 use mm_manager::Key;
 use mm_service::reply::{MAX_REPLY, end_line};
@@ -44,7 +44,7 @@ impl ServedManager {
     }
 
     /// Returns the transaction if it owns so many names that it ends by parts.
-    fn many(&self, key: Key) -> Option<Key>
+    pub(crate) fn many(&self, key: Key) -> Option<Key>
         ensures { result ≡ many (hub_of self.now) key }
     {
         if self.manager.owned_len(key) > END_PART {
@@ -78,10 +78,7 @@ impl ServedManager {
         let outcome = self.give_back(key, END_PART, None, output, writer);
         self.manager.keeps_laws();
         self.begun.keeps_laws();
-        outcome?;
-        make_room(output, MAX_ANSWER, writer)?;
-        print_more(output, key);
-        Ok(())
+        write_more_after(outcome, key, output, writer)
     }
 
     /// Gives back so many names of a transaction, each as by an unlock, and writes who is granted them, but not to a connection that hangs up.
@@ -108,6 +105,35 @@ impl ServedManager {
         }
         written
     }
+}
+
+/// Writes that the server has to send a line again, by which this transaction ends, if what came before was written.
+fn write_more_after<W: Write>(
+    before: Result<(), Fault>,
+    key: Key,
+    output: &mut Output,
+    writer: &mut W,
+) -> Result<(), Fault>
+    requires { IsOkUnless before Fault.Write }
+    ensures more { MatchResult before
+        (λ _. (lost : List ℕ) × Writes (W.contents writer.old) (W.contents writer.new) (output.old.items ++ more_text key) lost × OnOk result (lost ≡ output.new.items))
+        (λ fault. (W.contents writer.new ≡ W.contents writer.old) × (result ≡ Err fault)) }
+    ensures fault { IsOkUnless result Fault.Write }
+{
+    match before {
+        Ok(()) => write_more(key, output, writer),
+        Err(fault) => Err(fault),
+    }
+}
+
+/// The same, where it was.
+fn write_more<W: Write>(key: Key, output: &mut Output, writer: &mut W) -> Result<(), Fault>
+    ensures more { (lost : List ℕ) × Writes (W.contents writer.old) (W.contents writer.new) (output.old.items ++ more_text key) lost × OnOk result (lost ≡ output.new.items) }
+    ensures fault { IsOkUnless result Fault.Write }
+{
+    make_room(output, MAX_REPLY, writer)?;
+    print_more(output, key);
+    Ok(())
 }
 
 /// Prints that the server has to send a line again, by which this transaction ends.

@@ -95,9 +95,6 @@ module _ (b : Listing) (c p : ℕ) (matched : ListsMatchSpots b) (first : Some p
       let list : kept.list ≡ c = cc in
       (sym first, sym is ∙ ap (λ n. Some (record { list = n; tag = kept.tag })) list)
 
-  pub freed_first : ListsMatchSpots (freed b p)
-  freed_first = freed_matches b p first_within matched
-
 -- a transaction is put into a list
 module _ (b : Listing) (n : ℕ) (k : Key) (process : k.process < length b.spots) where
   put_at : spot_at (listed b n k) k.process ≡ Some (record { list = n; tag = k.generation })

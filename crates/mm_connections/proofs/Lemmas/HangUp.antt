@@ -1,5 +1,5 @@
 -- A part of a hang-up leaves the transactions of other connections, and ends those of its own; the last one leaves none.
-use Rattle.std.proofs.Common.{◌≡◌, ◌⊎◌, ℕ, Bool, true, false, List, [], ◌∷◌, Some, None, is_some, length, ◌/◌, if◌then◌else◌, slice_set, inl, inr, refl, sym, ap, subst, ◌∙◌, arith, length-set, get_or-set_same, Result, Ok, Err, take}
+use Rattle.std.proofs.Common.{◌≡◌, ◌⊎◌, ◌-◌, ℕ, Bool, true, false, List, [], ◌∷◌, Option, Some, None, is_some, length, ◌/◌, if◌then◌else◌, slice_set, inl, inr, refl, sym, ap, subst, ◌∙◌, arith, length-set, get_or-set_same, take}
 use Rattle.std.proofs.lemmas.Bool.{cases_eq, cases_lt, ne_eqb, or_parts, cases_Bool}
 use Rattle.std.proofs.lemmas.List.{get_or_past}
 use Rattle.std.proofs.lemmas.Option.{same_Some}
@@ -14,13 +14,12 @@ use Rattle.mm_manager.specs.Calls.{Aborts}
 use Rattle.mm_apart.proofs.Lemmas.Dead.{abort_keeps_dead, abort_own}
 use Rattle.mm_apart.proofs.Lemmas.Left.{as_it_was, left_left}
 use Rattle.mm_apart.proofs.Lemmas.Requests.{aborts, cancels}
-use Rattle.mm_manager.specs.declared.refusal.Refusal.{Refusal}
 use Rattle.mm_connections.specs.Apart.{StaysApart, HangUpEnds, HangUpLeavesNone, HangUpEndsLast}
 use Rattle.mm_connections.specs.Begun.{aside_list, connection_in, connection_of, has_any, has_first, IsOf, open_list}
 use Rattle.mm_connections.specs.Counts.{count_at}
 use Rattle.mm_connections.specs.Hub.{Hub}
-use Rattle.mm_connections.specs.Text.{Drops, DropsAll, HangsUp, SetsAside, SetsAllAside, to_end, to_set_aside}
-use Rattle.mm_connections.proofs.Lemmas.Parts.{cancel_live}
+use Rattle.mm_connections.specs.Text.{Drops, DropsAll, EndsBy, EndsFront, HangsUp, SetsAside, SetsAllAside, long_first, names_at, to_end, to_set_aside}
+use Rattle.mm_connections.proofs.Lemmas.Parts.{cancel_live, many_begun, many_stay}
 use Rattle.mm_connections.proofs.Lemmas.Begun.{aside_same, freed_else, freed_here, half_aside, half_open, either_list, kept, of_spot}
 
 -- ---- one after the other
@@ -113,28 +112,47 @@ module _ (c p : ℕ) (old : Hub) (out : List ℕ) (new : Hub) (one : Drops c p o
       let same : dropped_key ≡ t = λ i. record { process = sym here i; generation = tag i } in
       abort_own old.manager new.manager t lawful one.answer (subst (λ k. Aborts old.manager k one.answer new.manager) same one.did.aborts)
 
-drops_stay : (c : ℕ) (ps : List ℕ) (old : Hub) (out : List ℕ) (new : Hub) (t : Key) → DropsAll c ps old out new → IsLawful old.manager → is_live old.manager.table t ≡ true → ¬ IsOf old.begun c t → StaysApart old t new
-drops_stay c [] old out new t (none, same) lawful live other = same_stays old new t same live
-drops_stay c (p ∷ ps) old out new t (mid, first, rest, one, later, text) lawful live other =
+drops_stay : (c left : ℕ) (ps : List ℕ) (old : Hub) (out : List ℕ) (new : Hub) (t : Key) → DropsAll c left ps old out new → IsLawful old.manager → is_live old.manager.table t ≡ true → ¬ IsOf old.begun c t → StaysApart old t new
+drops_stay c left [] old out new t (none, same) lawful live other = same_stays old new t same live
+drops_stay c left (p ∷ ps) old out new t (inl (long, none, same)) lawful live other = same_stays old new t same live
+drops_stay c left (p ∷ ps) old out new t (inr (mid, first, rest, fits, one, later, text)) lawful live other =
     let stays = drop_stays c p old first mid one t lawful live other in
-    stays_then old mid new t stays (drops_stay c ps mid rest new t later one.lawful stays.left.live (λ own. other (sym stays.owner ∙ own)))
+    stays_then old mid new t stays (drops_stay c (left - names_at old p) ps mid rest new t later one.lawful stays.left.live (λ own. other (sym stays.owner ∙ own)))
 
-drops_dead : (c : ℕ) (ps : List ℕ) (old : Hub) (out : List ℕ) (new : Hub) (t : Key) → DropsAll c ps old out new → IsLawful old.manager → is_live old.manager.table t ≡ false → is_live new.manager.table t ≡ false
-drops_dead c [] old out new t (none, same) lawful dead = ap (λ (h : Hub). is_live h.manager.table t) same ∙ dead
-drops_dead c (p ∷ ps) old out new t (mid, first, rest, one, later, text) lawful dead = drops_dead c ps mid rest new t later one.lawful (drop_dead c p old first mid one t lawful dead)
+drops_dead : (c left : ℕ) (ps : List ℕ) (old : Hub) (out : List ℕ) (new : Hub) (t : Key) → DropsAll c left ps old out new → IsLawful old.manager → is_live old.manager.table t ≡ false → is_live new.manager.table t ≡ false
+drops_dead c left [] old out new t (none, same) lawful dead = ap (λ (h : Hub). is_live h.manager.table t) same ∙ dead
+drops_dead c left (p ∷ ps) old out new t (inl (long, none, same)) lawful dead = ap (λ (h : Hub). is_live h.manager.table t) same ∙ dead
+drops_dead c left (p ∷ ps) old out new t (inr (mid, first, rest, fits, one, later, text)) lawful dead =
+    drops_dead c (left - names_at old p) ps mid rest new t later one.lawful (drop_dead c p old first mid one t lawful dead)
 
-drops_own : (c : ℕ) (ps : List ℕ) (old : Hub) (out : List ℕ) (new : Hub) (t : Key) → DropsAll c ps old out new → IsLawful old.manager → IsOf old.begun c t → (is_live new.manager.table t ≡ false) ⊎ IsOf new.begun c t
-drops_own c [] old out new t (none, same) lawful of_c = inr (ap (λ (h : Hub). connection_of h.begun t) same ∙ of_c)
-drops_own c (p ∷ ps) old out new t (mid, first, rest, one, later, text) lawful of_c = elim (cases_eq t.process p) [
-  | inl here ↦ inl (drops_dead c ps mid rest new t later one.lawful (drop_own c p old first mid one t lawful of_c here))
-  | inr apart ↦ drops_own c ps mid rest new t later one.lawful (begun_after c p old first mid one t lawful ∙ freed_else old.begun p t apart ∙ of_c)
+drops_own : (c left : ℕ) (ps : List ℕ) (old : Hub) (out : List ℕ) (new : Hub) (t : Key) → DropsAll c left ps old out new → IsLawful old.manager → IsOf old.begun c t → (is_live new.manager.table t ≡ false) ⊎ IsOf new.begun c t
+drops_own c left [] old out new t (none, same) lawful of_c = inr (ap (λ (h : Hub). connection_of h.begun t) same ∙ of_c)
+drops_own c left (p ∷ ps) old out new t (inl (long, none, same)) lawful of_c = inr (ap (λ (h : Hub). connection_of h.begun t) same ∙ of_c)
+drops_own c left (p ∷ ps) old out new t (inr (mid, first, rest, fits, one, later, text)) lawful of_c = elim (cases_eq t.process p) [
+  | inl here ↦ inl (drops_dead c (left - names_at old p) ps mid rest new t later one.lawful (drop_own c p old first mid one t lawful of_c here))
+  | inr apart ↦ drops_own c (left - names_at old p) ps mid rest new t later one.lawful (begun_after c p old first mid one t lawful ∙ freed_else old.begun p t apart ∙ of_c)
 ]
 
 -- a list that is empty stays so
-drops_none : (c : ℕ) (ps : List ℕ) (old : Hub) (out : List ℕ) (new : Hub) (n : ℕ) → DropsAll c ps old out new → list_at old.begun n ≡ [] → list_at new.begun n ≡ []
-drops_none c [] old out new n (none, same) empty = ap (λ (h : Hub). list_at h.begun n) same ∙ empty
-drops_none c (p ∷ ps) old out new n (mid, first, rest, one, later, text) empty =
-    drops_none c ps mid rest new n later (ap (λ (h : Hub). list_at h.begun n) one.rest ∙ list_at-freed old.begun p n ∙ ap (without p) empty)
+drops_none : (c left : ℕ) (ps : List ℕ) (old : Hub) (out : List ℕ) (new : Hub) (n : ℕ) → DropsAll c left ps old out new → list_at old.begun n ≡ [] → list_at new.begun n ≡ []
+drops_none c left [] old out new n (none, same) empty = ap (λ (h : Hub). list_at h.begun n) same ∙ empty
+drops_none c left (p ∷ ps) old out new n (inl (long, none, same)) empty = ap (λ (h : Hub). list_at h.begun n) same ∙ empty
+drops_none c left (p ∷ ps) old out new n (inr (mid, first, rest, fits, one, later, text)) empty =
+    drops_none c (left - names_at old p) ps mid rest new n later (ap (λ (h : Hub). list_at h.begun n) one.rest ∙ list_at-freed old.begun p n ∙ ap (without p) empty)
+
+-- ---- or the first of them gives back names
+
+ends_stay : (o : Option Key) (c : ℕ) (ps : List ℕ) (old : Hub) (out : List ℕ) (new : Hub) (t : Key) → EndsBy o c ps old out new → IsLawful old.manager → is_live old.manager.table t ≡ true → ¬ IsOf old.begun c t → StaysApart old t new
+ends_stay None c ps old out new t drops lawful live other = drops_stay c 1024 ps old out new t drops lawful live other
+ends_stay (Some k) c ps old out new t (own, gives) lawful live other = many_stay (Some c) k t 1024 old out new gives lawful live (λ same. other (subst (IsOf old.begun c) same own))
+
+ends_own : (o : Option Key) (c : ℕ) (ps : List ℕ) (old : Hub) (out : List ℕ) (new : Hub) (t : Key) → EndsBy o c ps old out new → IsLawful old.manager → IsOf old.begun c t → (is_live new.manager.table t ≡ false) ⊎ IsOf new.begun c t
+ends_own None c ps old out new t drops lawful of_c = drops_own c 1024 ps old out new t drops lawful of_c
+ends_own (Some k) c ps old out new t (own, gives) lawful of_c = inr (ap (λ b. connection_of b t) (many_begun (Some c) k t 1024 old out new gives) ∙ of_c)
+
+ends_none : (o : Option Key) (c : ℕ) (ps : List ℕ) (old : Hub) (out : List ℕ) (new : Hub) (n : ℕ) → EndsBy o c ps old out new → list_at old.begun n ≡ [] → list_at new.begun n ≡ []
+ends_none None c ps old out new n drops empty = drops_none c 1024 ps old out new n drops empty
+ends_none (Some k) c ps old out new n (own, gives) empty = ap (λ b. list_at b n) (many_begun (Some c) k k 1024 old out new gives) ∙ empty
 
 -- ---- and the count is cleared, if none is left
 
@@ -175,7 +193,8 @@ module _ (c : ℕ) (old new : Hub) (out : List ℕ) (did : HangsUp c old out new
     hangs_apart live other =
         let first = sets_stay c (to_set_aside old.begun c) old did.aside t did.sets lawful live other in
         let after = sets_lawful c (to_set_aside old.begun c) old did.aside did.sets lawful in
-        let second = drops_stay c (to_end did.aside.begun c) did.aside did.told did.last t did.drops after first.left.live (λ own. other (sym first.owner ∙ own)) in
+        let ps = to_end did.aside.begun c in
+        let second = ends_stay (long_first did.aside ps) c ps did.aside did.told did.last t did.ends after first.left.live (λ own. other (sym first.owner ∙ own)) in
         let both = stays_then old did.aside did.last t first second in
         record {
           left = left_left old.manager did.last.manager new.manager t both.left (as_it_was did.last.manager new.manager t both.left.live manager_last);
@@ -185,7 +204,8 @@ module _ (c : ℕ) (old new : Hub) (out : List ℕ) (did : HangsUp c old out new
     hangs_own : IsOf old.begun c t → (is_live new.manager.table t ≡ false) ⊎ IsOf new.begun c t
     hangs_own of_c =
         let after = sets_lawful c (to_set_aside old.begun c) old did.aside did.sets lawful in
-        elim (drops_own c (to_end did.aside.begun c) did.aside did.told did.last t did.drops after (sets_owner c (to_set_aside old.begun c) old did.aside t did.sets ∙ of_c)) [
+        let ps = to_end did.aside.begun c in
+        elim (ends_own (long_first did.aside ps) c ps did.aside did.told did.last t did.ends after (sets_owner c (to_set_aside old.begun c) old did.aside t did.sets ∙ of_c)) [
           | inl dead ↦ inl (ap (λ (m : LockState). is_live m.table t) manager_last ∙ dead)
           | inr own ↦ inr (ap (λ b. connection_of b t) begun_last ∙ own)
         ]
@@ -206,21 +226,22 @@ module _ (c : ℕ) (old new : Hub) (out : List ℕ) (did : HangsUp c old out new
       let over : new ≡ record did.last { counts = slice_set did.last.counts c 0 } = did.rest ∙ ap (λ (b : Bool). if b then did.last else record did.last { counts = slice_set did.last.counts c 0 }) none in
       ap (λ (h : Hub). count_at h.counts c) over ∙ zero_at did.last.counts c
 
--- where one is left that was not set aside, none was dropped
-none_dropped : (c : ℕ) (aside : Hub) (told : List ℕ) (last : Hub) → DropsAll c (to_end aside.begun c) aside told last → has_first last.begun (open_list c) ≡ true → last ≡ aside
-none_dropped c aside told last drops more = elim (cases_Bool (has_first aside.begun (open_list c))) [
+-- where one is left that was not set aside, nothing ended
+none_ended : (c : ℕ) (aside : Hub) (told : List ℕ) (last : Hub) → EndsFront c (to_end aside.begun c) aside told last → has_first last.begun (open_list c) ≡ true → last ≡ aside
+none_ended c aside told last ends more = elim (cases_Bool (has_first aside.begun (open_list c))) [
   | inl left ↦
       let none : to_end aside.begun c ≡ [] = ap (λ (b : Bool). if b then [] else take 256 (list_at aside.begun (aside_list c))) left in
-      (subst (λ ps. DropsAll c ps aside told last) none drops).1
+      (subst (λ ps. EndsFront c ps aside told last) none ends).1
   | inr over ↦
-      let empty = drops_none c (to_end aside.begun c) aside told last (open_list c) drops (empty_of (list_at aside.begun (open_list c)) over) in
+      let ps = to_end aside.begun c in
+      let empty = ends_none (long_first aside ps) c ps aside told last (open_list c) ends (empty_of (list_at aside.begun (open_list c)) over) in
       let never : true ≡ false = sym more ∙ ap (λ xs. is_some (head xs)) empty in
       absurd (cc)
 ]
 
 pub hang_up_ends_last : HangUpEndsLast
 hang_up_ends_last c old new out did more t live =
-    let same = none_dropped c did.aside did.told did.last did.drops (sym (ap (λ b. has_first b (open_list c)) (begun_last c old new out did)) ∙ more) in
+    let same = none_ended c did.aside did.told did.last did.ends (sym (ap (λ b. has_first b (open_list c)) (begun_last c old new out did)) ∙ more) in
     ap (λ (m : LockState). is_live m.table t) (manager_last c old new out did ∙ ap (λ (h : Hub). h.manager) same) ∙ sets_live c (to_set_aside old.begun c) old did.aside t did.sets ∙ live
 
 pub hang_up_ends : HangUpEnds

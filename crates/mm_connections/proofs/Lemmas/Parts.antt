@@ -1,5 +1,5 @@
 -- A part of an end, one name after the other, and what it leaves of transactions.
-use Rattle.std.proofs.Common.{◌≡◌, ◌+◌, ℕ, zero, suc, List, [], ◌++◌, Option, Some, None, Result, Ok, Err, true, refl, sym, ap, subst, ◌∙◌, arith}
+use Rattle.std.proofs.Common.{◌≡◌, ◌+◌, ℕ, zero, suc, List, [], ◌++◌, Option, None, Result, Ok, Err, true, refl, sym, ap, subst, ◌∙◌, arith}
 use Rattle.mm_arena.specs.declared.key.Key.{Key}
 use Rattle.mm_rules.specs.TableState.{is_live}
 use Rattle.mm_manager.specs.Calls.{Cancels, UnlocksAny}
@@ -10,7 +10,7 @@ use Rattle.mm_apart.proofs.Lemmas.Events.{withdrawal_live}
 use Rattle.mm_apart.proofs.Lemmas.Left.{as_it_was, left_left}
 use Rattle.mm_apart.proofs.Lemmas.Requests.{cancels, unlocks_any, unlock_live}
 use Rattle.mm_connections.specs.Apart.{LastPartsEnd, PartsEndNobody, StaysApart}
-use Rattle.mm_connections.specs.Begun.{connection_of, IsOf, now_aside}
+use Rattle.mm_connections.specs.Begun.{connection_of}
 use Rattle.mm_connections.specs.Hub.{Hub}
 use Rattle.mm_connections.specs.Text.{EndsPart, GivesBack, GivesBackMany}
 use Rattle.mm_connections.proofs.Lemmas.Begun.{now_aside_same}

@@ -1,5 +1,5 @@
 -- Connections are apart over a run.
-use Rattle.std.proofs.Common.{◌≡◌, ℕ, Bool, true, false, List, [], ◌∷◌, drop, Option, Some, None, Result, Ok, Err, if◌then◌else◌, slice_set, inl, inr, refl, sym, ap, subst, ◌∙◌}
+use Rattle.std.proofs.Common.{◌≡◌, ◌-◌, ℕ, Bool, true, false, List, [], ◌∷◌, drop, Option, Some, None, Result, Ok, Err, if◌then◌else◌, slice_set, inl, inr, refl, sym, ap, subst, ◌∙◌}
 use Rattle.mm_arena.specs.declared.key.Key.{Key}
 use Rattle.mm_lines.specs.Words.{words_of}
 use Rattle.mm_tagged_lists.specs.TaggedLists.{Listing}
@@ -11,7 +11,7 @@ use Rattle.mm_connections.specs.Begun.{connection_of, has_any}
 use Rattle.mm_connections.specs.Hub.{Hub}
 use Rattle.mm_connections.specs.Line.{said_of}
 use Rattle.mm_connections.specs.Permission.{permission_of}
-use Rattle.mm_connections.specs.Text.{Answers, AnswersSaid, BeginsAs, BeginsBy, DropsAll, MakesBy, RepliesTo, ServesBy, SetsAllAside, is_full, part_of, to_end, to_set_aside}
+use Rattle.mm_connections.specs.Text.{Answers, AnswersSaid, BeginsAs, BeginsBy, DropsAll, EndsBy, MakesBy, RepliesTo, ServesBy, SetsAllAside, is_full, long_first, names_at, part_of, to_end, to_set_aside}
 use Rattle.mm_connections.specs.declared.line.Said.{Said}
 use Rattle.mm_connections.specs.declared.line.Said.TheVariants as said
 use Rattle.mm_connections.specs.declared.permission.Permission.{Permission}
@@ -47,9 +47,14 @@ serves_options permit.Make c request name out old new did = makes_options (part_
 serves_options permit.NoTransaction c request name out old new (text, same) = ap (λ (h : Hub). h.options) same
 serves_options permit.Operator c request name out old new (text, same) = ap (λ (h : Hub). h.options) same
 
-drops_options : (c : ℕ) (ps : List ℕ) (old : Hub) (out : List ℕ) (new : Hub) → DropsAll c ps old out new → new.options ≡ old.options
-drops_options c [] old out new (none, same) = ap (λ (h : Hub). h.options) same
-drops_options c (p ∷ ps) old out new (mid, first, rest, one, later, text) = drops_options c ps mid rest new later ∙ ap (λ (h : Hub). h.options) one.rest
+drops_options : (c left : ℕ) (ps : List ℕ) (old : Hub) (out : List ℕ) (new : Hub) → DropsAll c left ps old out new → new.options ≡ old.options
+drops_options c left [] old out new (none, same) = ap (λ (h : Hub). h.options) same
+drops_options c left (p ∷ ps) old out new (inl (long, none, same)) = ap (λ (h : Hub). h.options) same
+drops_options c left (p ∷ ps) old out new (inr (mid, first, rest, fits, one, later, text)) = drops_options c (left - names_at old p) ps mid rest new later ∙ ap (λ (h : Hub). h.options) one.rest
+
+ends_options : (o : Option Key) (c : ℕ) (ps : List ℕ) (old : Hub) (out : List ℕ) (new : Hub) → EndsBy o c ps old out new → new.options ≡ old.options
+ends_options None c ps old out new drops = drops_options c 1024 ps old out new drops
+ends_options (Some k) c ps old out new (own, gives) = gives_options (Some c) k 1024 old out new gives
 
 sets_options : (c : ℕ) (ps : List ℕ) (old new : Hub) → SetsAllAside c ps old new → new.options ≡ old.options
 sets_options c [] old new same = ap (λ (h : Hub). h.options) same
@@ -63,7 +68,8 @@ said_options : (s : Said) (name : List ℕ) (old : Hub) (out : List ℕ) (one : 
 said_options said.Nobody name old out one new (text, count, same) = ap (λ (h : Hub). h.options) same
 said_options (said.Malformed c) name old out one new (text, count, same) = ap (λ (h : Hub). h.options) same
 said_options (said.HangsUp c) name old out one new (lawful, did, none) =
-    ap (λ (h : Hub). h.options) did.rest ∙ closed_options c did.last (has_any did.last.begun c) ∙ drops_options c (to_end did.aside.begun c) did.aside did.told did.last did.drops
+    let ps = to_end did.aside.begun c in
+    ap (λ (h : Hub). h.options) did.rest ∙ closed_options c did.last (has_any did.last.begun c) ∙ ends_options (long_first did.aside ps) c ps did.aside did.told did.last did.ends
     ∙ sets_options c (to_set_aside old.begun c) old did.aside did.sets
 said_options (said.Asks c request) name old out one new (lawful, did, none) = serves_options (permission_of old.begun c request) c request name out old new did
 

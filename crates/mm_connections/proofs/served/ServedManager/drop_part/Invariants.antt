@@ -16,7 +16,7 @@ invariant-drop g l = record {
   config : l.self.manager.table.config ≡ l.initial.self.manager.table.config;
   told : List ℕ;
   lost : List ℕ;
-  drops : DropsOn l.connection (256 - l.counter) (hub_of l.initial.self) told (hub_of l.self);
+  drops : DropsOn l.connection l.left (256 - l.counter) (hub_of l.initial.self) told (hub_of l.self);
   writes : Writes (g.W.Write.contents l.initial.writer) (g.W.Write.contents l.writer) (l.initial.output.items ++ told) lost;
   kept : OnOk l.written (lost ≡ l.output.items);
   fault : IsOkUnless l.written Write;

@@ -1,4 +1,4 @@
-use Rattle.std.proofs.Common.{◌≡◌, ◌∙◌, sym, subst, refl, codes, decimal, List, ℕ, ◌++◌, Option, append_assoc}
+use Rattle.std.proofs.Common.{◌∙◌, sym, subst, refl, codes, decimal, List, ℕ, ◌++◌, Option, append_assoc}
 use Rattle.mm_arena.specs.declared.key.Key.{Key}
 use Rattle.mm_lines.specs.Output.{Writes}
 use Rattle.mm_service.proofs.Lemmas.Pieces.{writes_after}

@@ -1,10 +1,9 @@
-use Rattle.std.proofs.Common.{◌∙◌, sym, subst, refl, codes, decimal, List, ℕ, ◌++◌, append_assoc}
-use Rattle.mm_lines.specs.Output.{Writes}
+use Rattle.std.proofs.Common.{◌∙◌, sym, subst, refl, codes, ◌++◌}
 use Rattle.mm_manager.specs.declared.refusal.Refusal.TheVariants as refusal
 use Rattle.mm_service.specs.Reply.{line_text, refusal_word}
-use Rattle.mm_service.proofs.Lemmas.Pieces.{writes_after, writes_printed}
+use Rattle.mm_service.proofs.Lemmas.Pieces.{writes_printed}
 use Rattle.mm_connections.specs.Hub.{Hub, to}
-use Rattle.mm_connections.specs.Text.{ServesBy, events_text}
+use Rattle.mm_connections.specs.Text.{ServesBy}
 use Rattle.mm_connections.specs.declared.permission.Permission.{Permission}
 use Rattle.mm_connections.specs.private.Served.{hub_of}
 use Rattle.mm_connections.proofs.Lemmas.Lines.{printed_both}
