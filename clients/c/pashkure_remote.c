@@ -31,14 +31,14 @@ static result ask(connection *at, const struct verb *verb, transaction of, const
     return name == NULL || remote_is_name(name) ? remote_call(at, verb, of, name, &holder) : PASHKURE_REMOTE_BAD_NAME;
 }
 
-/* Asks the service what became of a wait: WAITING; OK, it was granted its name; or ABORTED. */
+/* Asks the service what became of a wait: WAITING, also if the operator is aborting the transaction; OK, it was granted its name; or ABORTED. */
 static result look(connection *at, transaction of)
 {
     pashkure_remote_status status;
     result told = pashkure_remote_status_of(at, of, &status);
     if (told == PASHKURE_REMOTE_NO_TRANSACTION)
         return PASHKURE_REMOTE_ABORTED;
-    return told == PASHKURE_REMOTE_OK && status.mode == PASHKURE_REMOTE_IS_WAITING ? PASHKURE_REMOTE_WAITING : told;
+    return told == PASHKURE_REMOTE_OK && status.mode != PASHKURE_REMOTE_IS_ACTIVE ? PASHKURE_REMOTE_WAITING : told;
 }
 
 /* Waits for news of a transaction that waits: OK, it was granted its name; ABORTED; or TIMED_OUT. A service from which nothing comes has to answer now
@@ -194,7 +194,7 @@ result pashkure_remote_wait(connection *at, transaction of)
 {
     pashkure_remote_status status;
     result told = pashkure_remote_status_of(at, of, &status);
-    return told == PASHKURE_REMOTE_OK && status.mode == PASHKURE_REMOTE_IS_WAITING ? await(at, of, FOREVER) : told;
+    return told == PASHKURE_REMOTE_OK && status.mode != PASHKURE_REMOTE_IS_ACTIVE ? await(at, of, FOREVER) : told;
 }
 
 /* ---- Several names ---- */

@@ -194,9 +194,10 @@ void pashkure_remote_fence_text(pashkure_remote_fence fence, char text[PASHKURE_
 
 /* ---- Reading ---- */
 
-typedef enum pashkure_remote_mode { PASHKURE_REMOTE_IS_ACTIVE, PASHKURE_REMOTE_IS_WAITING } pashkure_remote_mode;
+typedef enum pashkure_remote_mode { PASHKURE_REMOTE_IS_ACTIVE, PASHKURE_REMOTE_IS_WAITING, PASHKURE_REMOTE_IS_ENDING } pashkure_remote_mode;
 
-/* What a transaction does. Name and holder are those of its wait, and empty if it is active. */
+/* What a transaction does. It is ending if it gives back many names, part by part, since it commits or is aborted, or since its client has
+ * hung up. Name and holder are those of its wait, and else empty. */
 typedef struct pashkure_remote_status {
     pashkure_remote_mode mode;
     char name[PASHKURE_REMOTE_NAME_BYTES + 1];

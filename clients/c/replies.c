@@ -122,11 +122,16 @@ result remote_end_reply(connection *at)
 
 bool remote_read_state(connection *at, char *word, bool may_grow, pashkure_remote_status *status)
 {
-    bool is_waiting = strcmp(word, "waiting") == 0;
-    *status = (pashkure_remote_status){.mode = is_waiting ? PASHKURE_REMOTE_IS_WAITING : PASHKURE_REMOTE_IS_ACTIVE};
-    if (!is_waiting && strcmp(word, "active") != 0)
+    static const char *const words[] = {
+        [PASHKURE_REMOTE_IS_ACTIVE] = "active", [PASHKURE_REMOTE_IS_WAITING] = "waiting", [PASHKURE_REMOTE_IS_ENDING] = "ending"};
+    int mode = PASHKURE_REMOTE_IS_ACTIVE;
+    while (mode <= PASHKURE_REMOTE_IS_ENDING && strcmp(word, words[mode]) != 0)
+        mode++;
+    *status = (pashkure_remote_status){.mode = PASHKURE_REMOTE_IS_ACTIVE};
+    if (mode > PASHKURE_REMOTE_IS_ENDING)
         return false;
-    if (is_waiting)
+    status->mode = (pashkure_remote_mode)mode;
+    if (status->mode == PASHKURE_REMOTE_IS_WAITING)
         remote_read_wait(at, status->name, &status->holder);
     (may_grow ? remote_read_rest : remote_read_end)(at);
     return true;

@@ -98,6 +98,8 @@ class Hub:
             return [self.begin_with(connection, parts)]
         if word == b"lock" and len(parts) > 2:
             return [self.lock_names(parts[0], parts[1:]) or b"granted"]
+        if word == b"status":
+            return [self.status(parts[0])]
         own = getattr(self, word.decode(), None) if word in FURTHER else None
         return own(*parts) if own is not None else self.service.make(word, *parts)
 
@@ -166,7 +168,11 @@ class Hub:
 
     def list(self) -> list[bytes]:
         live = sorted(self.service.keys, key=self.service.keys.__getitem__)
-        return [b"list %d" % len(live), *(b"* %b %d %b" % (key, self.began[key], self.service.status(key)) for key in live)]
+        return [b"list %d" % len(live), *(b"* %b %d %b" % (key, self.began[key], self.status(key)) for key in live)]
+
+    def status(self, key: bytes) -> bytes:
+        said = self.service.status(key)
+        return b"ending" if key in self.aside else said
 
     def counts(self) -> "list[bytes]":
         service, events = self.service, self.service.events

@@ -125,7 +125,7 @@ class Many(Case):
             line = chance.choice(ends)
             if not any(said.startswith(b"* more ") for said in self.say(line)):
                 ends.remove(line)
-            chance.choice([lambda: self.say(b"4 begin %b" % chance.choice(names)), lambda: self.say(b"0 list"), lambda: self.say(b"0 counts")])()
+            chance.choice([lambda: self.say(b"4 begin %b" % chance.choice(names)), lambda: self.say(b"0 list"), lambda: self.say(b"0 counts"), lambda: self.say(b"1 status %b" % first)])()
         while self.say(b"- 3")[-1] != b"- 3":
             self.say(b"4 begin %b" % chance.choice(names))
         self.say(b"0 totals")

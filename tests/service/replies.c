@@ -125,6 +125,7 @@ static const struct {
     {NULL, pashkure_remote_abort, "abort 0.1\n", "aborted\n", IS(OK)},
     {NULL, pashkure_remote_cancel, "cancel 0.1\n", "cancelled\n", IS(OK)},
     {NULL, pashkure_remote_wait, "status 0.1\n", "active\n", IS(OK)},
+    {NULL, pashkure_remote_wait, "status 0.1\n", "ending\n* aborted 0.1\n", IS(ABORTED)},
 };
 #define WORDS (sizeof words / sizeof *words)
 
@@ -327,16 +328,17 @@ static void test_reads(void)
     pashkure_remote_service service;
     char text[PASHKURE_REMOTE_FENCE_BYTES];
     size_t row;
-    replies("owner 7.3\nfree\nactive\nwaiting a 1.1\ntotals 4 3 2 18446744073709551615\n"
+    replies("owner 7.3\nfree\nactive\nwaiting a 1.1\nending\ntotals 4 3 2 18446744073709551615\n"
             "counts 1 2 3 4 5 6 7 8 9 of-a-later-version-and-longer-than-any-word 1\nfence 9223372036854775807 42\nhello 2 7 65536 1024 64 later\n");
     GIVES(OK, pashkure_remote_owner(&here, "a", &owner));
     CHECK(same(owner, KEY(7, 3)));
     GIVES(FREE, pashkure_remote_owner(&here, "a", &owner));
     CHECK(same(owner, NOBODY));
-    for (row = 0; row < 2; row++) {
-        bool waits = row > 0;
+    for (row = 0; row < 3; row++) {
+        static const pashkure_remote_mode modes[] = {IS(IS_ACTIVE), IS(IS_WAITING), IS(IS_ENDING)};
+        bool waits = row == 1;
         GIVES(OK, pashkure_remote_status_of(&here, first, &status));
-        CHECK(status.mode == (waits ? IS(IS_WAITING) : IS(IS_ACTIVE)));
+        CHECK(status.mode == modes[row]);
         CHECK(strcmp(status.name, waits ? "a" : "") == 0 && same(status.holder, waits ? KEY(1, 1) : NOBODY));
     }
     GIVES(OK, pashkure_remote_totals(&here, &counts));
@@ -350,7 +352,7 @@ static void test_reads(void)
     pashkure_remote_fence_text((pashkure_remote_fence){UINT64_MAX, UINT64_MAX}, text);
     GIVES(OK, pashkure_remote_hello(&here, &service));
     CHECK(service.epoch == 7 && service.transactions == 65536 && service.names == 1024 && service.name_bytes == 64);
-    CHECK(sent("owner a\nowner a\nstatus 0.1\nstatus 0.1\ntotals\ncounts\nfence 0.1 a\nhello\n"));
+    CHECK(sent("owner a\nowner a\nstatus 0.1\nstatus 0.1\nstatus 0.1\ntotals\ncounts\nfence 0.1 a\nhello\n"));
     for (row = 0; row < 2; row++) {
         replies(row == 0 ? "hello 1 7 65536 1024 64\n" : "hello 3\n");
         GIVES(OTHER_PROTOCOL, pashkure_remote_hello(&here, &service));

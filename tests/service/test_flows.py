@@ -34,11 +34,11 @@ DIALOGUE = [
     ("lock", "refused no-transaction"), ("lock", "refused waiting"), ("lock", "refused 2 name-too-long"), ("lock", "refused labels-full"),
     ("try", "granted"), ("try", "held"), ("try", "busy 2.7"), ("unlock", "unlocked"), ("unlock", "refused not-owner"), ("commit", "committed"),
     ("abort", "aborted"), ("cancel", "cancelled"), ("cancel", "refused not-waiting"),
-    ("owner", "owner 2.7"), ("owner", "free"), ("status", "active"), ("status", "waiting a\\xff 2.7"),
+    ("owner", "owner 2.7"), ("owner", "free"), ("status", "active"), ("status", "ending"), ("status", "waiting a\\xff 2.7"),
     ("holds", "holds"), ("holds", "holds a b"), ("holds", "holds a b .."), ("holds", "refused no-transaction"),
     ("fence", "fence 7 8"), ("fence", "refused no-epoch"), ("totals", "totals 1 2 3 4"),
     ("hello", "hello 1 2 3 4 5"), ("hello", "refused connections-full"), ("counts", "counts 1 2 3 4 5 6 7 8 9 10 later"), ("graph", "graph 0"),
-    ("graph", "graph 2\n* 0.1 a 2.7\n* 2.7 b 0.1"), ("list", "list 3\n* 0.1 1 active 7\n* 1.1 3 waiting a 0.1 later\n* 2.1 2 waiting b 1.1"),
+    ("graph", "graph 2\n* 0.1 a 2.7\n* 2.7 b 0.1"), ("list", "list 4\n* 0.1 1 active 7\n* 1.1 3 waiting a 0.1 later\n* 2.1 2 waiting b 1.1\n* 3.1 1 ending"),
     ("clients", "clients 1\n* 1 2 3 4 later"),
 ]  # fmt: skip
 """Each request with each of its replies, by docs/SERVICE.md."""
@@ -49,7 +49,7 @@ NO_REPLIES = [
               "deadlock 1 2.7", "deadlock 2.7 a 3.1", "deadlock 2.7 ..  ", "deadlock 2.7 a .. ..", "deadlock a 2.7", "deadlock"]),
     ("try", ["waits 2.7", "busy"]), ("commit", ["aborted", "later"]), ("abort", ["later", "committed"]), ("cancel", ["aborted", "carried"]),
     ("owner", ["owner", "owner a", "free 1"]),
-    ("status", ["waiting", "waiting a", "waiting a b", "waiting a 2.7 later", "deadlock a 2.7", "idle"]), ("holds", ["hold a", "holds a  b", "holds "]),
+    ("status", ["waiting", "waiting a", "waiting a b", "waiting a 2.7 later", "ending a 2.7", "deadlock a 2.7", "idle"]), ("holds", ["hold a", "holds a  b", "holds "]),
     ("fence", ["fence 1", "fence a b"]), ("totals", ["totals 1 2 3", "totals 1 2 3 x"]),
     ("hello", ["hello", "hello 1 2 3 4"]), ("graph", ["graph", "graph x", "graph -1", "graph 1 2", "graph 1\n* 0.1 a", "graph 1\n* 0.1 a b c", "graph 2\n* 0.1 a 1.1\ngranted",
                                                      "graph 1\ngranted"]),

@@ -148,10 +148,13 @@ class Ends(ServerCase):
         self.assertEqual(self.given(b"1 abort 0.1", b"1 abort 0.1", b"- 1", b"0 totals"), [*parts, b"2 * granted 2.1 0", b"- 1", b"0 totals 3 0 1 0"])
 
     def test_between_the_parts(self) -> None:
-        """Who is ending asks for nothing more, and gives no name back by itself."""
+        """Who is ending asks for nothing more, and gives no name back by itself. Its client and the operator see that it is ending."""
         refused = b"1 refused no-transaction"
         self.assertEqual(self.given(b"0 abort 0.1", b"1 lock 0.1 x", b"1 lock 0.1 x y", b"1 try 0.1 x", b"1 unlock 0.1 0", b"1 cancel 0.1", b"1 status 0.1"),
-                         [b"2 * granted 1.1 2999", b"* more 0.1", *[refused] * 5, b"1 active"])  # fmt: skip
+                         [b"2 * granted 1.1 2999", b"* more 0.1", *[refused] * 5, b"1 ending"])  # fmt: skip
+        self.assertEqual(self.given(b"1 commit 0.1", b"2 status 0.1", b"0 list", b"1 commit 0.1", b"1 commit 0.1", b"0 status 0.1"),
+                         [b"2 * granted 1.1 2999", b"* more 0.1", b"2 refused no-transaction", b"0 list 3", b"0 * 0.1 1 ending", b"0 * 1.1 2 active", b"0 * 2.1 2 waiting 0 0.1",
+                          b"* more 0.1", b"1 committed", b"2 * granted 2.1 0", b"0 refused no-transaction"])  # fmt: skip
 
     def test_of_a_stranger(self) -> None:
         self.assertEqual(self.given(b"2 commit 0.1", b"0 commit 0.1"), [b"2 refused no-transaction", b"0 refused no-transaction"])

@@ -165,7 +165,9 @@ def _refused(state: State, words: Answer, name: bytes = b"") -> LockError:
 
 def status_of(words: Sequence[bytes]) -> Status:
     """What a transaction does, by the words of a reply."""
-    return Status("active") if words[0] == b"active" else Status("waiting", decoded(words[1]), words[2].decode("ascii"))
+    if words[0] == b"waiting":
+        return Status("waiting", decoded(words[1]), words[2].decode("ascii"))
+    return Status("active" if words[0] == b"active" else "ending")
 
 
 def counts_of(words: Answer) -> Counts:

@@ -58,8 +58,9 @@ def seconds(value: Optional[float], what: str = "a timeout") -> float:
 
 @dataclass(frozen=True)
 class Status:
-    """What a transaction does: if it waits, the name that it waits for, and who owns that."""
-    state: Literal["active", "waiting"]
+    """What a transaction does: if it waits, the name that it waits for, and who owns that. It is ending if it gives back many names, part by
+    part: it commits or is aborted, or its client has hung up."""
+    state: Literal["active", "waiting", "ending"]
     name: Optional[str] = None
     holder: Optional[str] = None
 

@@ -38,7 +38,7 @@ REPLIES = {
         b"begin": rb"begun KEY(?: waits # KEY| deadlock #PAIRS| refused # [a-z-]+)?",
         b"lock": rb"granted|held|waits(?: #)? KEY|deadlock(?: #)?PAIRS", b"try": rb"granted|held|busy KEY", b"unlock": rb"unlocked",
         b"commit": rb"committed", b"abort": rb"aborted", b"cancel": rb"cancelled", b"owner": rb"owner KEY|free",
-        b"status": rb"active|waiting NAME KEY", b"holds": rb"holds(?: NAME)*", b"fence": rb"fence # #", b"totals": rb"totals(?: #){4}",
+        b"status": rb"active|ending|waiting NAME KEY", b"holds": rb"holds(?: NAME)*", b"fence": rb"fence # #", b"totals": rb"totals(?: #){4}",
         b"hello": rb"hello(?: #){5}MORE", b"counts": rb"counts(?: #){9}MORE", b"graph": rb"graph #", b"list": rb"list #", b"clients": rb"clients #",
     }.items()
 }  # fmt: skip
@@ -47,7 +47,7 @@ PLAIN = (b"begin", b"owner", b"totals", b"hello")
 EVENT = _pattern(rb"\* (?:granted KEY NAME|aborted KEY|deadlockPAIRS)")
 LINES = {
     b"graph": _pattern(rb"\* KEY NAME KEY"),
-    b"list": _pattern(rb"\* KEY # (?:active|waiting NAME KEY)MORE"),
+    b"list": _pattern(rb"\* KEY # (?:active|ending|waiting NAME KEY)MORE"),
     b"clients": _pattern(rb"\* # # # #MORE"),
 }
 """The lines that follow a reply, for the requests whose replies have some."""

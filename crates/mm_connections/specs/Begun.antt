@@ -31,6 +31,15 @@ is_open_in c generation (Some o) = nat_eq o.tag generation && nat_eq (o.list % 2
 abbrev pub is_open : Listing → ℕ → Key → Bool
 is_open begun c k = is_open_in c k.generation (spot_at begun k.process)
 
+-- the spot has this generation as its tag, and is of one that is set aside
+abbrev pub is_aside_in : ℕ → Option Spot → Bool
+is_aside_in generation None = false
+is_aside_in generation (Some o) = nat_eq o.tag generation && nat_eq (o.list % 2) 1
+
+-- the transaction is set aside: a connection began it, and it is ending
+abbrev pub is_aside : Listing → Key → Bool
+is_aside begun k = is_aside_in k.generation (spot_at begun k.process)
+
 -- the transaction of the slot that has this spot
 abbrev pub key_in : ℕ → Option Spot → Key
 key_in p None = record { process = p; generation = 0 }

@@ -50,6 +50,7 @@ plain_permission begun c _ = Operator
 -- the operator reads all; others read what is theirs
 abbrev pub read_permission : Listing → ℕ → ReadRequest → Permission
 read_permission begun c (reads.Holds k) = if nat_eq c 0 then Make else of_own begun c k
+read_permission begun c (reads.Status k) = if nat_eq c 0 then Make else of_own begun c k
 read_permission begun c (reads.Fence k) = of_own begun c k
 read_permission begun c reads.Hello = Make
 read_permission begun c _ = if nat_eq c 0 then Make else Operator

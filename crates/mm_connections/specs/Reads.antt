@@ -1,5 +1,5 @@
 -- What is read of a service with connections.
-use Rattle.std.specs.Prelude.{◌≡◌, ◌↔◌, ℕ, false, List, [], ◌∷◌, ◌++◌, length, Option, Some, None, unwrap_or, codes, decimal, nat_lt, if◌then◌else◌}
+use Rattle.std.specs.Prelude.{◌≡◌, ◌↔◌, ◌&&◌, ℕ, false, List, [], ◌∷◌, ◌++◌, length, Option, Some, None, unwrap_or, codes, decimal, nat_lt, if◌then◌else◌}
 use Rattle.std.specs.Option.{option_map_or}
 use Rattle.mm_arena.specs.declared.key.Key.{Key}
 use Rattle.mm_arena.specs.Key.{key_text}
@@ -12,7 +12,7 @@ use Rattle.mm_manager.specs.declared.refusal.Refusal.TheVariants as refusals
 use Rattle.mm_manager.specs.declared.reply.Wait.{Wait}
 use Rattle.mm_service.specs.Holds.{HoldsText}
 use Rattle.mm_service.specs.Reply.{answer_text, edge_text, line_text, name_at, refusal_word, status_text}
-use Rattle.mm_connections.specs.Begun.{connection_of}
+use Rattle.mm_connections.specs.Begun.{connection_of, is_aside}
 use Rattle.mm_connections.specs.Hub.{Hub, to}
 use Rattle.mm_connections.specs.Status.{status_of}
 use Rattle.mm_connections.specs.declared.request.ReadRequest.{ReadRequest}
@@ -67,9 +67,13 @@ abbrev pub connection_text : Option ℕ → List ℕ
 connection_text None = codes "-"
 connection_text (Some c) = decimal c
 
+-- what a transaction does: one that is set aside is ending
+abbrev pub doing_text : Hub → Key → List ℕ
+doing_text h k = if is_live h.manager.table k && is_aside h.begun k then codes "ending" else answer_text (status_text h.manager) (status_of h.manager k)
+
 -- a transaction, its connection, and what it does
 abbrev pub live_line : Hub → Key → List ℕ
-live_line h k = (codes "* " ++ key_text k) ++ codes " " ++ connection_text (connection_of h.begun k) ++ codes " " ++ line_text (answer_text (status_text h.manager) (status_of h.manager k))
+live_line h k = (codes "* " ++ key_text k) ++ codes " " ++ connection_text (connection_of h.begun k) ++ codes " " ++ line_text (doing_text h k)
 
 -- a line for each, to connection c
 abbrev pub live_lines : ℕ → Hub → List Key → List ℕ
@@ -86,6 +90,7 @@ list_text c h = line_text (codes "list " ++ decimal (length (live_of h.manager.t
 abbrev pub ReadReply : ℕ → ReadRequest → List ℕ → Hub → List ℕ → Type 0
 ReadReply c (reads.Holds k) from h out = HoldsText h.manager k from out
 ReadReply c (reads.Fence k) name h out = FenceText h k name out
+ReadReply c (reads.Status k) name h out = out ≡ line_text (doing_text h k)
 ReadReply c reads.Hello name h out = out ≡ line_text (hello_text h)
 ReadReply c reads.Graph name h out = out ≡ graph_text c h.manager
 ReadReply c reads.List name h out = out ≡ list_text c h

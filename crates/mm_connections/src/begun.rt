@@ -2,7 +2,7 @@
 ghost use Rattle.std.specs.Prelude.{◌≡◌, ◌<◌, ◌*◌, ◌%◌, length, IfOk, IfSome, MatchOption, Some, []};
 ghost use Rattle.mm_tagged_lists.specs.TaggedLists.{unlisted, spot_at, list_at, freed, ListsMatchSpots};
 ghost use Rattle.mm_lists.specs.Members.{head};
-ghost use Rattle.mm_connections.specs.Begun.{aside_list, begun_by, connection_of, has_any, has_first, is_open, listed, now_aside, open_list, set_aside};
+ghost use Rattle.mm_connections.specs.Begun.{aside_list, begun_by, connection_of, has_any, has_first, is_aside, is_open, listed, now_aside, open_list, set_aside};
 
 use mm_manager::Key;
 use mm_tagged_lists::{Spot, TaggedLists};
@@ -82,6 +82,19 @@ impl Begun {
             Some(spot) => {
                 spot.tag == key.generation && spot.list % 2 == 0 && spot.list / 2 == connection
             }
+            None => false,
+        }
+    }
+
+    /// Returns whether a transaction is set aside, in constant time.
+    pub fn is_aside(&self, key: Key) -> bool
+        ensures { result ≡ is_aside self.now key }
+    {
+        if key.process >= self.processes {
+            return false;
+        }
+        match self.lists.spot(key.process) {
+            Some(spot) => spot.tag == key.generation && spot.list % 2 == 1,
             None => false,
         }
     }

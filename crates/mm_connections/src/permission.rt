@@ -53,8 +53,10 @@ fn read_permission(begun: &Begun, connection: u32, request: ReadRequest) -> Perm
 {
     let is_operator = connection == OPERATOR;
     match request {
-        ReadRequest::Holds(_) if is_operator => Permission::Make,
-        ReadRequest::Holds(key) | ReadRequest::Fence(key) => of_own(begun, connection, key),
+        ReadRequest::Holds(_) | ReadRequest::Status(_) if is_operator => Permission::Make,
+        ReadRequest::Holds(key) | ReadRequest::Fence(key) | ReadRequest::Status(key) => {
+            of_own(begun, connection, key)
+        }
         ReadRequest::Hello => Permission::Make,
         ReadRequest::Graph | ReadRequest::List | ReadRequest::Counts if is_operator => {
             Permission::Make

@@ -6,7 +6,7 @@ ghost use Rattle.mm_manager.specs.Reads.{live_of, waits_of};
 ghost use Rattle.mm_service.specs.Holds.{HasRoom};
 ghost use Rattle.mm_service.specs.Reply.{line_text};
 ghost use Rattle.mm_connections.specs.Hub.{to};
-ghost use Rattle.mm_connections.specs.Reads.{FenceText, ReadReply, connection_text, counts_text, edge_lines, fence_by, graph_text, hello_text, list_text, live_line, live_lines};
+ghost use Rattle.mm_connections.specs.Reads.{FenceText, ReadReply, connection_text, counts_text, doing_text, edge_lines, fence_by, graph_text, hello_text, list_text, live_line, live_lines};
 
 use crate::request::{Heard, ReadRequest};
 use crate::served::{MAX_ANSWER, ServedManager, print_to};
@@ -46,6 +46,10 @@ impl ServedManager {
             }
             ReadRequest::Fence(key) => {
                 self.print_fence(key, heard.name, output);
+                Ok(())
+            }
+            ReadRequest::Status(key) => {
+                self.print_doing(key, output);
                 Ok(())
             }
             ReadRequest::Hello => {
@@ -185,7 +189,20 @@ impl ServedManager {
         print_text(output, b" ");
         print_connection(output, self.begun.connection(key));
         print_text(output, b" ");
-        print_status(output, &self.manager, &self.manager.status(key));
+        self.print_doing(key, output);
+    }
+
+    /// Prints what a transaction does.
+    fn print_doing(&self, key: Key, output: &mut Output)
+        requires { array_vec_len output.old + MAX_NAMED ≤ OUTPUT_LEN }
+        ensures { Prints output.old.items (line_text (doing_text (hub_of self.now) key)) MAX_NAMED output.new.items }
+    {
+        let status = self.manager.status(key);
+        if status.is_ok() && self.begun.is_aside(key) {
+            print_line(output, b"ending");
+        } else {
+            print_status(output, &self.manager, &status);
+        }
     }
 }
 

@@ -4,7 +4,7 @@ ghost use Rattle.mm_connections.specs.Request.{client_asked};
 ghost use Rattle.mm_connections.specs.private.Request.{asked_of};
 
 use mm_manager::Key;
-use mm_service::Request;
+use mm_service::{KeyRequest, Request};
 
 /// What a connection asks for. The name that it is about stands beside it, or the names do.
 #[derive(Clone, Copy)]
@@ -26,6 +26,8 @@ pub enum ReadRequest {
     Holds(Key),
     /// The fence of a name that a transaction owns.
     Fence(Key),
+    /// What a transaction does.
+    Status(Key),
     /// The protocol, the epoch, and the numbers of the opening.
     Hello,
     /// The wait-for graph.
@@ -71,6 +73,9 @@ pub fn client_asked(request: Request, name: &[u8]) -> ClientAsked<'_>
     let (request, about) = match request {
         Request::Begin => (ClientRequest::Begin, [].as_slice()),
         Request::Holds(key) => (ClientRequest::Read(ReadRequest::Holds(key)), name),
+        Request::OfKey(KeyRequest::Status, key) => {
+            (ClientRequest::Read(ReadRequest::Status(key)), name)
+        }
         Request::Graph => (ClientRequest::Read(ReadRequest::Graph), name),
         Request::OfName(_, _) | Request::OfKey(_, _) | Request::Owner | Request::Totals => {
             (ClientRequest::Plain(request), name)

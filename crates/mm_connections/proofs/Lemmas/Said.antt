@@ -14,6 +14,7 @@ use Rattle.mm_service.specs.declared.line.Line.{Line}
 use Rattle.mm_service.specs.declared.line.Line.TheVariants as kind
 use Rattle.mm_service.specs.declared.line.Request.{Request}
 use Rattle.mm_service.specs.declared.line.Request.TheVariants as requests
+use Rattle.mm_service.specs.declared.requests.KeyRequest.TheVariants as of_key
 use Rattle.mm_connections.specs.Forms.{are_names, fence_name, further, further_by, further_of, further_of_words, further_words, is_name, read}
 use Rattle.mm_connections.specs.Line.{NamedSaid, asked_by, asks_further, below, hung_up_by, is_plain, number_in, said_by, said_line, said_of, said_of_parts}
 use Rattle.mm_connections.specs.Request.{AskedByClient, client_asked}
@@ -69,7 +70,10 @@ hung_up_fits n (Some c) within = within c refl
 plain_short : (request : Request) (name : List ℕ) → length name ≤ 1048 → length (client_asked request name).about ≤ 1048
 plain_short requests.Begin name short = omega arith
 plain_short (requests.OfName request k) name short = short
-plain_short (requests.OfKey request k) name short = short
+plain_short (requests.OfKey of_key.Commit k) name short = short
+plain_short (requests.OfKey of_key.Abort k) name short = short
+plain_short (requests.OfKey of_key.Cancel k) name short = short
+plain_short (requests.OfKey of_key.Status k) name short = short
 plain_short (requests.Holds k) name short = short
 plain_short requests.Owner name short = short
 plain_short requests.Graph name short = short
