@@ -22,7 +22,7 @@ locks --names 0|locks --names 16777217|locks --transactions 0|locks --transactio
 locks --seed -1|locks --seed x|locks --names|locks extra|locks --verbose|locks --names 1 --names 2|prove""".replace("\n", "|").split("|")
 TOLD = {
     "script": ["1 to 17592186044415", " 7 LabelsExhausted ", "15 CountsExhausted ", "refused N Name"],
-    "locks": ["* granted K NAME", "* aborted K", "* more C", "no-transaction", "waiting", "not-waiting", "name-too-long", "not-owner",
+    "locks": ["* granted K NAME", "* aborted K", "* more C", "* more K", "'ending'", "no-transaction", "waiting", "not-waiting", "name-too-long", "not-owner",
               "names-full", "too-many-names", "transactions-full", "labels-full", "counts-full", "operator", "no-epoch"],
 }  # fmt: skip
 

@@ -165,11 +165,13 @@ Ranges:
 With --connections N each line is 'C REQUEST' of a connection C below N, or
 '- C', by which C hangs up; each reply begins with the number of the connection
 that it is for. After '* more C' some transactions of C are left, and '- C' has
-to come again; after '- C' none is. A connection may use only the transactions
-that it began, at most --each at a time. Each line has one reply, also a blank
-line and a comment: 'malformed'. Connection 0 is the operator's: it begins
-nothing, and may ask for status, holds and abort of any K; it alone may ask for
-graph, list and counts: they are 'refused operator' to others. Further requests:
+to come again; after '- C' none is. After '* more K' some names of K are left,
+and its commit or abort has to come again; until it has ended, the status of K
+is 'ending'. A connection may use only the transactions that it began, at most
+--each at a time. Each line has one reply, also a blank line and a comment:
+'malformed'. Connection 0 is the operator's: it begins nothing, and may ask for
+status, holds and abort of any K; it alone may ask for graph, list and counts:
+they are 'refused operator' to others. Further requests:
   begin NAME ..   begun K if K owns all, or begun K with one of the three below
   lock K NAME ..  for two names or more: granted if K owns all; or
                   waits I H, deadlock I H NAME .. or refused I WORD, by the
