@@ -211,24 +211,13 @@ fn write_part_after<W: Write>(
     ensures fault { IsOkUnless result Fault.Write }
 {
     match before {
-        Ok(()) => write_part(connection, has_more, output, writer),
+        Ok(()) => {
+            make_room(output, MAX_ANSWER, writer)?;
+            print_part(output, connection, has_more);
+            Ok(())
+        }
         Err(fault) => Err(fault),
     }
-}
-
-/// The same, where it was.
-fn write_part<W: Write>(
-    connection: u32,
-    has_more: bool,
-    output: &mut Output,
-    writer: &mut W,
-) -> Result<(), Fault>
-    ensures part { (lost : List ℕ) × Writes (W.contents writer.old) (W.contents writer.new) (output.old.items ++ hang_up_text has_more connection) lost × OnOk result (lost ≡ output.new.items) }
-    ensures fault { IsOkUnless result Fault.Write }
-{
-    make_room(output, MAX_ANSWER, writer)?;
-    print_part(output, connection, has_more);
-    Ok(())
 }
 
 /// Prints whether a connection has to hang up again, or is over.

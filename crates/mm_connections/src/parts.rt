@@ -121,19 +121,13 @@ fn write_more_after<W: Write>(
     ensures fault { IsOkUnless result Fault.Write }
 {
     match before {
-        Ok(()) => write_more(key, output, writer),
+        Ok(()) => {
+            make_room(output, MAX_REPLY, writer)?;
+            print_more(output, key);
+            Ok(())
+        }
         Err(fault) => Err(fault),
     }
-}
-
-/// The same, where it was.
-fn write_more<W: Write>(key: Key, output: &mut Output, writer: &mut W) -> Result<(), Fault>
-    ensures more { (lost : List ℕ) × Writes (W.contents writer.old) (W.contents writer.new) (output.old.items ++ more_text key) lost × OnOk result (lost ≡ output.new.items) }
-    ensures fault { IsOkUnless result Fault.Write }
-{
-    make_room(output, MAX_REPLY, writer)?;
-    print_more(output, key);
-    Ok(())
 }
 
 /// Prints that the server has to send a line again, by which this transaction ends.

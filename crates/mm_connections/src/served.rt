@@ -3,7 +3,8 @@ ghost use Rattle.std.specs.Prelude.{◌≡◌, ◌<◌, ◌≤◌, ◌+◌, ◌*
 ghost use Rattle.arrayvec.specs.ArrayVec.{array_vec_len};
 ghost use Rattle.mm_lines.specs.Output.{Prints, Writes};
 ghost use Rattle.mm_service.specs.Holds.{HasRoom};
-ghost use Rattle.mm_connections.specs.Hub.{IsLawfulHub};
+ghost use Rattle.mm_service.specs.Reply.{line_text};
+ghost use Rattle.mm_connections.specs.Hub.{IsLawfulHub, to};
 ghost use Rattle.mm_connections.specs.Text.{Answers, MakesBy, Serves, part_of};
 ghost use Rattle.mm_connections.specs.Begun.{aside_list};
 
@@ -60,8 +61,7 @@ impl ServedManager {
         match named.said {
             Said::Nobody => Ok(true),
             Said::Malformed(connection) => {
-                print_to(output, connection);
-                print_line(output, b"malformed");
+                print_line_to(output, connection, b"malformed");
                 Ok(true)
             }
             Said::HangsUp(connection) => {
@@ -108,13 +108,11 @@ impl ServedManager {
         match permission_of(&self.begun, heard.connection, heard.request) {
             Permission::Make => self.make_or_end(heard, numbers, output, writer),
             Permission::NoTransaction => {
-                print_to(output, heard.connection);
-                print_line(output, b"refused no-transaction");
+                print_line_to(output, heard.connection, b"refused no-transaction");
                 Ok(())
             }
             Permission::Operator => {
-                print_to(output, heard.connection);
-                print_line(output, b"refused operator");
+                print_line_to(output, heard.connection, b"refused operator");
                 Ok(())
             }
         }
@@ -160,4 +158,14 @@ pub(crate) fn print_to(output: &mut Output, connection: u32)
 {
     print_number(output, b"", u64::from(connection));
     print_text(output, b" ");
+}
+
+/// Prints a short line to a connection.
+fn print_line_to(output: &mut Output, connection: u32, text: &[u8])
+    requires room { array_vec_len output.old + MAX_ANSWER ≤ OUTPUT_LEN }
+    requires short { length text.now ≤ 128 }
+    ensures { output.new.items ≡ output.old.items ++ to connection (line_text text.now) }
+{
+    print_to(output, connection);
+    print_line(output, text);
 }

@@ -10,7 +10,6 @@ use Rattle.mm_connections.specs.Line.{said_of}
 use Rattle.mm_connections.specs.Hub.{Hub, to}
 use Rattle.mm_connections.specs.Text.{AnswersSaid}
 use Rattle.mm_connections.specs.private.Served.{hub_of}
-use Rattle.mm_connections.proofs.Lemmas.Lines.{printed_both}
 use Rattle.mm_connections.proofs.Lemmas.Said.{IsFit, said_fits}
 use Rattle.mm_connections.proofs.served.ServedManager.answer.Goals as goal
 
@@ -59,9 +58,9 @@ returns-in-Malformed-clause-answered g c =
     let L = λ (s : Said). AnswersSaid s says.name h text 1 h in (
       text,
       1,
-      c.print_line.new.output.items,
+      c.print_line_to.new.output.items,
       subst L line (refl, refl, refl),
-      writes_printed _ kept text c.print_line.new.output.items (printed_both kept _ c.print_to.new.output.items _ c.print_line.new.output.items c.print_to.ensures.added c.print_line.ensures),
+      writes_printed _ kept text c.print_line_to.new.output.items c.print_line_to.ensures,
       (refl, refl),
     )
 

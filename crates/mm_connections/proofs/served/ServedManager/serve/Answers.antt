@@ -6,7 +6,6 @@ use Rattle.mm_connections.specs.Hub.{Hub, to}
 use Rattle.mm_connections.specs.Text.{ServesBy}
 use Rattle.mm_connections.specs.declared.permission.Permission.{Permission}
 use Rattle.mm_connections.specs.private.Served.{hub_of}
-use Rattle.mm_connections.proofs.Lemmas.Lines.{printed_both}
 use Rattle.mm_connections.proofs.served.ServedManager.serve.Goals as goal
 
 pub returns-in-Make-clause-serves : goal.returns-in-Make-clause-serves
@@ -27,9 +26,25 @@ returns-in-NoTransaction-clause-serves g c =
     let text = to n (line_text (codes "refused " ++ refusal_word refusal.NoTransaction)) in
     let P = λ (p : Permission). ServesBy p n c.args.heard.request c.args.heard.name.now h text h in (
       text,
-      c.print_line.new.output.items,
+      c.print_line_to.new.output.items,
       record { manager = c.keeps_laws.ensures; lists = c.keeps_laws-2.ensures },
       subst P becomes (refl, refl),
-      writes_printed _ kept text c.print_line.new.output.items (printed_both kept _ c.print_to.new.output.items _ c.print_line.new.output.items c.print_to.ensures.added c.print_line.ensures),
+      writes_printed _ kept text c.print_line_to.new.output.items c.print_line_to.ensures,
+      refl,
+    )
+
+pub returns-in-Operator-clause-serves : goal.returns-in-Operator-clause-serves
+returns-in-Operator-clause-serves g c =
+    let becomes = sym c.in-Operator.is ∙ c.permission_of.ensures in
+    let n = c.args.heard.connection in
+    let h : Hub = hub_of c.args.self.now in
+    let kept = c.args.output.now.items in
+    let text = to n (line_text (codes "refused operator")) in
+    let P = λ (p : Permission). ServesBy p n c.args.heard.request c.args.heard.name.now h text h in (
+      text,
+      c.print_line_to-in-Operator.new.output.items,
+      record { manager = c.keeps_laws.ensures; lists = c.keeps_laws-2.ensures },
+      subst P becomes (refl, refl),
+      writes_printed _ kept text c.print_line_to-in-Operator.new.output.items c.print_line_to-in-Operator.ensures,
       refl,
     )
