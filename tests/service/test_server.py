@@ -147,6 +147,11 @@ class Ends(ServerCase):
         self.assertEqual(self.given(*[b"0 abort 0.1"] * 3), [*parts, b"0 aborted", b"1 * aborted 0.1", b"2 * granted 2.1 0"])
         self.assertEqual(self.given(b"1 abort 0.1", b"1 abort 0.1", b"- 1", b"0 totals"), [*parts, b"2 * granted 2.1 0", b"- 1", b"0 totals 3 0 1 0"])
 
+    def test_parts_of_a_hang_up(self) -> None:
+        """A line of a hang-up gives back no more names either. The transaction is live until its last part."""
+        self.assertEqual(self.given(*[b"- 1", b"0 totals"] * 3),
+                         [b"2 * granted 1.1 2999", b"* more 1", b"0 totals 3 0 0 0", b"* more 1", b"0 totals 3 0 0 0", b"2 * granted 2.1 0", b"- 1", b"0 totals 3 0 1 0"])
+
     def test_between_the_parts(self) -> None:
         """Who is ending asks for nothing more, and gives no name back by itself. Its client and the operator see that it is ending."""
         refused = b"1 refused no-transaction"
