@@ -4,9 +4,7 @@
 //! - `explain`: those of `explain`.
 //! - `arguments`: how clap is given the arguments of a subcommand.
 //! - `options`: the numbers of a lock service.
-ghost use Rattle.std.specs.Prelude.{◌≡◌, ◌≢◌, ◌↔◌, List, [], IfOk, IsSome, IsTrue, Some, codes, false, true, map};
-ghost use Rattle.clap.specs.Words.{FailsBy, HasMatchesOf, Text, fault_of, found_of, one_of, rows_of, subcommand_name_of, subcommand_rows_of};
-ghost use Rattle.mm_command.specs.CommandLine.{AsksForHelp, AsksForScript, AsksForVerboseScript, AsksForVersion, HasLimits, HasNumbers, HasShape, HasText, HasWanted, IsByFault, IsHelp, IsOff, IsOn, IsRun, IsScript, IsScriptName, IsVerboseScript, program, request_at, runs, verbose_in};
+ghost use Rattle.std.specs.Prelude.{◌↔◌, IsTrue};
 ghost use Rattle.mm_command.specs.Limits.{AreLimits, AreShape};
 
 mod arguments;
@@ -77,15 +75,7 @@ fn asked_or_refused(rt: &HostRuntime) -> Result<Request, AllocError> {
 }
 
 /// Returns what the words ask for; the first is the program's name. Allocates.
-pub fn request_of<S: AsStr>(alloc: Global, words: &[S]) -> Request
-    ensures script { AsksForScript (map S.text words.now) → IsScript result }
-    ensures verbose { AsksForVerboseScript (map S.text words.now) → IsVerboseScript result }
-    ensures help { AsksForHelp (map S.text words.now) → IsHelp result }
-    ensures version { AsksForVersion (map S.text words.now) → IsHelp result }
-    ensures faultless { runs result ≡ true → fault_of program (map S.text words.now) ≡ [] }
-    ensures taken { fault_of program (map S.text words.now) ≡ [] → IsRun result }
-    ensures wrong { fault_of program (map S.text words.now) ≢ [] → IsByFault (fault_of program (map S.text words.now)) result }
-{
+pub fn request_of<S: AsStr>(alloc: Global, words: &[S]) -> Request {
     match parsed(alloc, words) {
         Ok(matches) => by_matches(alloc, &matches),
         Err(error) => by_error(error),
@@ -93,17 +83,12 @@ pub fn request_of<S: AsStr>(alloc: Global, words: &[S]) -> Request
 }
 
 /// Returns what clap finds in the words.
-fn parsed<'a, S: AsStr>(alloc: Global, words: &'a [S]) -> Result<ArgMatches<'a>, Error>
-    ensures fails { FailsBy (fault_of program (map S.text words.entry.now)) result }
-    ensures matches { IfOk result (HasMatchesOf program (map S.text words.entry.now)) }
-{
+fn parsed<'a, S: AsStr>(alloc: Global, words: &'a [S]) -> Result<ArgMatches<'a>, Error> {
     command(alloc)?.try_get_matches_from(words)
 }
 
 /// Returns the request that follows from clap's error.
-fn by_error(error: Error) -> Request
-    ensures { result ≡ request_at error }
-{
+fn by_error(error: Error) -> Request {
     match error.kind() {
         ErrorKind::DisplayHelp => Request::Help(error),
         ErrorKind::DisplayVersion => Request::Help(error),
@@ -113,11 +98,7 @@ fn by_error(error: Error) -> Request
 }
 
 /// Returns the request that follows from what clap found.
-fn by_matches(alloc: Global, matches: &ArgMatches<'_>) -> Request
-    ensures script { IsScriptName (subcommand_name_of matches.now) → IsOff (verbose_in (subcommand_rows_of matches.now)) → IsScript result }
-    ensures verbose { subcommand_name_of matches.now ≡ Some (codes "script") → IsOn (verbose_in (subcommand_rows_of matches.now)) → IsVerboseScript result }
-    ensures taken { (words : List Text) → HasMatchesOf program words matches.now → fault_of program words ≡ [] → IsRun result }
-{
+fn by_matches(alloc: Global, matches: &ArgMatches<'_>) -> Request {
     match matches.subcommand() {
         Some((name, own)) => by_subcommand(alloc, name, own),
         None => Request::Script { verbose: false },
@@ -125,11 +106,7 @@ fn by_matches(alloc: Global, matches: &ArgMatches<'_>) -> Request
 }
 
 /// Returns the request that follows from a subcommand and what clap found for it.
-fn by_subcommand(alloc: Global, name: &str, own: &ArgMatches<'_>) -> Request
-    ensures script { name.now ≡ codes "script" → IsOff (one_of (codes "verbose") (rows_of (found_of own.now))) → IsScript result }
-    ensures verbose { name.now ≡ codes "script" → IsOn (one_of (codes "verbose") (rows_of (found_of own.now))) → IsVerboseScript result }
-    ensures taken { HasWanted name.now (rows_of (found_of own.now)) → IsRun result }
-{
+fn by_subcommand(alloc: Global, name: &str, own: &ArgMatches<'_>) -> Request {
     let asked = match name {
         "threads" => threads(alloc, own),
         "storm" => storm(alloc, own),
@@ -140,19 +117,13 @@ fn by_subcommand(alloc: Global, name: &str, own: &ArgMatches<'_>) -> Request
     asked.unwrap_or(Request::Memory)
 }
 
-fn script(own: &ArgMatches<'_>) -> Request
-    ensures quiet { IsOff (one_of (codes "verbose") (rows_of (found_of own.now))) → result ≡ Request.Script false }
-    ensures verbose { IsOn (one_of (codes "verbose") (rows_of (found_of own.now))) → result ≡ Request.Script true }
-    ensures runs { runs result ≡ true }
-{
+fn script(own: &ArgMatches<'_>) -> Request {
     Request::Script {
         verbose: own.get_flag("verbose"),
     }
 }
 
-fn threads(alloc: Global, own: &ArgMatches<'_>) -> Result<Request, AllocError>
-    ensures { HasText (codes "FILE") (rows_of (found_of own.now)) → IfOk result (λ request. runs request ≡ true) }
-{
+fn threads(alloc: Global, own: &ArgMatches<'_>) -> Result<Request, AllocError> {
     let Some(file) = own.get_str("FILE") else {
         return wrong(alloc, "the file is missing");
     };
@@ -171,9 +142,7 @@ fn file_of(alloc: Global, own: &ArgMatches<'_>, name: &str) -> Result<Option<Str
     }
 }
 
-fn storm(alloc: Global, own: &ArgMatches<'_>) -> Result<Request, AllocError>
-    ensures { HasNumbers (rows_of (found_of own.now)) → IfOk result (λ request. runs request ≡ true) }
-{
+fn storm(alloc: Global, own: &ArgMatches<'_>) -> Result<Request, AllocError> {
     let (Some(seed), Some(clients), Some(transmitters)) = (
         own.get_one::<u64>("seed"),
         own.get_one::<u32>("clients"),
@@ -200,9 +169,7 @@ fn storm(alloc: Global, own: &ArgMatches<'_>) -> Result<Request, AllocError>
 }
 
 /// Returns the shape of a storm, if all of its numbers are in their ranges.
-fn shape(own: &ArgMatches<'_>) -> Option<StormShape>
-    ensures { HasShape (rows_of (found_of own.now)) → IsSome result }
-{
+fn shape(own: &ArgMatches<'_>) -> Option<StormShape> {
     let (Some(resources), Some(acquires), Some(transactions)) = (
         own.get_one::<u32>("resources"),
         own.get_one::<u32>("acquires"),
@@ -229,9 +196,7 @@ fn are_shape(resources: u32, acquires: u32, transactions: u32) -> bool
         && (1..=MAX_TRANSACTIONS).contains(&transactions)
 }
 
-fn locks(alloc: Global, own: &ArgMatches<'_>) -> Result<Request, AllocError>
-    ensures { HasLimits (rows_of (found_of own.now)) → IfOk result (λ request. runs request ≡ true) }
-{
+fn locks(alloc: Global, own: &ArgMatches<'_>) -> Result<Request, AllocError> {
     let (Some(transactions), Some(names), Some(name_bytes)) = (
         own.get_one::<u32>("transactions"),
         own.get_one::<u32>("names"),
@@ -254,9 +219,7 @@ fn locks(alloc: Global, own: &ArgMatches<'_>) -> Result<Request, AllocError>
     }))
 }
 
-fn request_to_explain(alloc: Global, own: &ArgMatches<'_>) -> Result<Request, AllocError>
-    ensures { IfOk result (λ request. runs request ≡ true) }
-{
+fn request_to_explain(alloc: Global, own: &ArgMatches<'_>) -> Result<Request, AllocError> {
     let file = file_of(alloc, own, "FILE")?;
     Ok(Request::Explain(options_of(own, file)))
 }

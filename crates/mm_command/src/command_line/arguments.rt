@@ -1,8 +1,4 @@
 //! The arguments of a subcommand, as a table.
-ghost use Rattle.std.specs.Prelude.{◌≡◌, IfOk, false};
-ghost use Rattle.clap.specs.Words.{App, rule_of};
-ghost use Rattle.mm_command.specs.CommandLine.{IsLocal};
-ghost use Rattle.mm_command.specs.private.Words.{rule_by, rule_of_kind, with_rules};
 
 use clap::builder::ValueParser;
 use clap::{Arg, ArgAction, Command};
@@ -38,9 +34,7 @@ pub fn with_arguments<'a>(
     mut command: Command<'a>,
     alloc: Global,
     arguments: &[Argument],
-) -> Result<Command<'a>, AllocError>
-    ensures { (app : App) → IsLocal command.entry app → IfOk result (λ made. IsLocal made (with_rules app arguments.now)) }
-{
+) -> Result<Command<'a>, AllocError> {
     for argument in arguments {
         command = command.arg(arg_of(alloc, argument))?;
     }
@@ -48,10 +42,7 @@ pub fn with_arguments<'a>(
 }
 
 /// Returns an argument as clap takes it.
-fn arg_of<'a>(alloc: Global, argument: &Argument) -> Arg<'a>
-    ensures rule { rule_of result ≡ rule_by argument.now }
-    ensures local { result.global ≡ false }
-{
+fn arg_of<'a>(alloc: Global, argument: &Argument) -> Arg<'a> {
     let arg = without_help(alloc, argument.name, argument.kind);
     match argument.help {
         Some(help) => arg.help(help),
@@ -60,10 +51,7 @@ fn arg_of<'a>(alloc: Global, argument: &Argument) -> Arg<'a>
 }
 
 /// The same, without what help says of it.
-fn without_help<'a>(alloc: Global, name: &'static str, kind: ArgumentKind) -> Arg<'a>
-    ensures rule { rule_of result ≡ rule_of_kind name.now kind }
-    ensures local { result.global ≡ false }
-{
+fn without_help<'a>(alloc: Global, name: &'static str, kind: ArgumentKind) -> Arg<'a> {
     match kind {
         ArgumentKind::File { required } => Arg::new(alloc, name)
             .required(required)
@@ -79,18 +67,12 @@ fn without_help<'a>(alloc: Global, name: &'static str, kind: ArgumentKind) -> Ar
 }
 
 /// Returns a flag `--name`.
-fn flag<'a>(alloc: Global, name: &'static str) -> Arg<'a>
-    ensures rule { rule_of result ≡ rule_of_kind name.now ArgumentKind.Flag }
-    ensures local { result.global ≡ false }
-{
+fn flag<'a>(alloc: Global, name: &'static str) -> Arg<'a> {
     Arg::new(alloc, name).long(name).action(ArgAction::SetTrue)
 }
 
 /// Returns an option `--name VALUE`.
-fn option<'a>(alloc: Global, name: &'static str, value: &'static str) -> Arg<'a>
-    ensures rule { rule_of result ≡ rule_of_kind name.now ArgumentKind.FileOption }
-    ensures local { result.global ≡ false }
-{
+fn option<'a>(alloc: Global, name: &'static str, value: &'static str) -> Arg<'a> {
     Arg::new(alloc, name)
         .long(name)
         .value_name(value)
@@ -98,9 +80,6 @@ fn option<'a>(alloc: Global, name: &'static str, value: &'static str) -> Arg<'a>
 }
 
 /// Returns an option `--name N` with a whole number in this range.
-fn number<'a>(alloc: Global, name: &'static str, least: u64, most: u64) -> Arg<'a>
-    ensures rule { rule_of result ≡ rule_of_kind name.now (ArgumentKind.Number least most) }
-    ensures local { result.global ≡ false }
-{
+fn number<'a>(alloc: Global, name: &'static str, least: u64, most: u64) -> Arg<'a> {
     option(alloc, name, "N").value_parser(ValueParser::unsigned(least, most))
 }

@@ -1,8 +1,4 @@
 //! The words that there are: a table of subcommands, each with its arguments.
-ghost use Rattle.std.specs.Prelude.{◌≡◌, IfOk, codes};
-ghost use Rattle.clap.specs.Words.{app_of, new_app};
-ghost use Rattle.mm_command.specs.CommandLine.{IsLocal, program, versioned_app};
-ghost use Rattle.mm_command.specs.private.Words.{app_by, with_parts};
 
 use super::arguments::{Argument, ArgumentKind, with_arguments};
 use super::explain;
@@ -148,16 +144,12 @@ const VERBOSE_FLAG: Argument = Argument {
 };
 
 /// Returns the whole program, as clap takes it.
-pub fn command<'a>(alloc: Global) -> Result<Command<'a>, AllocError>
-    ensures { IfOk result (λ made. app_of made ≡ program) }
-{
+pub fn command<'a>(alloc: Global) -> Result<Command<'a>, AllocError> {
     with_subcommands(without_subcommands(alloc)?, alloc, &subcommands())
 }
 
 /// Returns the program's name and version, and what help says of it.
-fn without_subcommands<'a>(alloc: Global) -> Result<Command<'a>, AllocError>
-    ensures { IfOk result (λ made. app_of made ≡ versioned_app (codes "mmdetect")) }
-{
+fn without_subcommands<'a>(alloc: Global) -> Result<Command<'a>, AllocError> {
     plain(alloc, "mmdetect", ABOUT, Some(AFTER))
         .version(VERSION)
         .bin_name("mmdetect")
@@ -169,9 +161,7 @@ fn plain<'a>(
     name: &'static str,
     about: &'static str,
     after: Option<&'a str>,
-) -> Command<'a>
-    ensures { IsLocal result (new_app name.now) }
-{
+) -> Command<'a> {
     let command = Command::new(alloc, name).about(about);
     match after {
         Some(after) => command.after_help(after),
@@ -180,9 +170,7 @@ fn plain<'a>(
 }
 
 /// Each subcommand.
-fn subcommands() -> [Subcommand; 5]
-    ensures { with_parts (versioned_app (codes "mmdetect")) result ≡ program }
-{
+fn subcommands() -> [Subcommand; 5] {
     [
         Subcommand {
             name: "script",
@@ -222,9 +210,7 @@ fn with_subcommands<'a>(
     mut program: Command<'a>,
     alloc: Global,
     subcommands: &[Subcommand],
-) -> Result<Command<'a>, AllocError>
-    ensures { IfOk result (λ made. app_of made ≡ with_parts (app_of program.entry) subcommands.now) }
-{
+) -> Result<Command<'a>, AllocError> {
     for subcommand in subcommands {
         program = program.subcommand(command_of(alloc, subcommand)?)?;
     }
@@ -232,9 +218,7 @@ fn with_subcommands<'a>(
 }
 
 /// Returns a subcommand as clap takes it.
-fn command_of<'a>(alloc: Global, subcommand: &Subcommand) -> Result<Command<'a>, AllocError>
-    ensures { IfOk result (λ made. IsLocal made (app_by subcommand.now)) }
-{
+fn command_of<'a>(alloc: Global, subcommand: &Subcommand) -> Result<Command<'a>, AllocError> {
     let command = plain(alloc, subcommand.name, subcommand.about, subcommand.after);
     with_arguments(command, alloc, subcommand.arguments)
 }
