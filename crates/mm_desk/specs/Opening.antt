@@ -5,6 +5,11 @@ use Rattle.mm_thin.specs.declared.config.OpenError.TheVariants as office
 use Rattle.mm_desk.specs.declared.error.OpenError.{OpenError}
 use Rattle.mm_desk.specs.declared.error.OpenError.TheVariants.{Manager, Office, Memory}
 use Rattle.mm_desk.specs.declared.opening.DeskConfig.{DeskConfig}
+use Rattle.mm_thin.specs.declared.config.ThinConfig.{ThinConfig}
+
+-- the numbers of the words: as many workers as transactions, and the manager's seed
+abbrev pub thin_config : DeskConfig → ThinConfig
+thin_config config = record { buckets = config.buckets; workers = config.manager.transactions; name_bytes = config.manager.name_bytes; seed = config.manager.seed }
 
 -- there are to be no buckets, or too many
 abbrev pub AreBucketsOut : DeskConfig → Type 0

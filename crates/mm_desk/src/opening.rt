@@ -1,13 +1,13 @@
 //! The opening of a desk, and its workers.
 ghost use Rattle.std.specs.Prelude.{◌≡◌, ◌↔◌, ◌⊎◌, Err, IfErr, IfOk, OnErr};
-ghost use Rattle.mm_thin.specs.Views.{no_desk};
 ghost use Rattle.mm_thin.specs.Calls.{AddsWorker};
+ghost use Rattle.mm_thin.specs.Opening.{Opens};
 ghost use Rattle.mm_manager.specs.Opening.{opening_state, IsTransactionsOut, IsNamesOut, IsNameBytesOut};
 ghost use Rattle.mm_manager.specs.declared.refusal.OpenError.{OpenError as ManagerError};
 ghost use Rattle.mm_manager.specs.declared.refusal.OpenError.TheVariants as manager;
 ghost use Rattle.mm_thin.specs.declared.config.OpenError.TheVariants as office;
 ghost use Rattle.mm_desk.specs.Calls.{HasNoNames};
-ghost use Rattle.mm_desk.specs.Opening.{AreBucketsOut, IsMemory, IsRange};
+ghost use Rattle.mm_desk.specs.Opening.{AreBucketsOut, IsMemory, IsRange, thin_config};
 
 use crate::books::Books;
 use crate::desk::Desk;
@@ -30,7 +30,7 @@ impl Desk {
     /// Refused as `Buckets`, or else as `Transactions`, `Names` or `NameBytes`, exactly if that number of the configuration is out of its
     /// range, and otherwise only if a request for memory was refused.
     pub fn open(alloc: Global, config: DeskConfig) -> Result<Desk, OpenError>
-        ensures opened { IfOk result (λ desk. HasNoNames desk.manager × (desk.office.desk ≡ no_desk)) }
+        ensures opened { IfOk result (λ desk. HasNoNames desk.manager × Opens (thin_config config) desk.office) }
         ensures buckets { (result ≡ Err (OpenError.Office office.Buckets)) ↔ AreBucketsOut config }
         ensures transactions { (result ≡ Err (OpenError.Manager manager.Transactions)) ↔ (¬ AreBucketsOut config × IsTransactionsOut config.manager) }
         ensures names { (result ≡ Err (OpenError.Manager manager.Names)) ↔ (¬ AreBucketsOut config × ¬ IsTransactionsOut config.manager × IsNamesOut config.manager) }
@@ -49,7 +49,7 @@ impl Desk {
         requires manager { manager ≡ opening_state config.manager }
         requires buckets { ¬ AreBucketsOut config }
         requires workers { ¬ IsTransactionsOut config.manager }
-        ensures opened { IfOk result (λ desk. HasNoNames desk.manager × (desk.office.desk ≡ no_desk)) }
+        ensures opened { IfOk result (λ desk. HasNoNames desk.manager × Opens (thin_config config) desk.office) }
         ensures refused { IfErr result IsMemory }
     {
         let office = open_office(alloc, config)?;
@@ -94,7 +94,7 @@ fn open_manager(alloc: Global, config: ManagerConfig) -> Result<LockManager, Ope
 fn open_office(alloc: Global, config: DeskConfig) -> Result<Office, OpenError>
     requires buckets { ¬ AreBucketsOut config }
     requires workers { ¬ IsTransactionsOut config.manager }
-    ensures opened { IfOk result (λ office. office.desk ≡ no_desk) }
+    ensures opened { IfOk result (Opens (thin_config config)) }
     ensures refused { IfErr result (λ error. error ≡ OpenError.Office office.Memory) }
 {
     let thin = ThinConfig {

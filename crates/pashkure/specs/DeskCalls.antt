@@ -10,7 +10,9 @@ use Rattle.mm_desk.specs.All.{AdoptsBelow, FreesBelow}
 use Rattle.mm_desk.specs.Calls.{AbortsAt, AsksAt, BeginsAt, CancelsAt, CommitsAt, HasNoNames, KeepsFat, KeepsManager, ListsOwned, RefusesOne, TriesAt, UnlocksAt}
 use Rattle.mm_thin.specs.Calls.{AddsWorker, GivesBack, GivesSomeUp}
 use Rattle.mm_thin.specs.Parts.{WorkerState}
-use Rattle.mm_thin.specs.Views.{no_desk}
+use Rattle.mm_thin.specs.Opening.{Opens}
+use Rattle.mm_desk.specs.Opening.{thin_config}
+use Rattle.mm_desk.specs.declared.opening.DeskConfig.{DeskConfig}
 use Rattle.mm_thin.specs.declared.config.TheConstants.ThinConfig.{MAX_BUCKETS}
 use Rattle.mm_thin.specs.declared.reply.GiveUp.TheVariants.{Done}
 use Rattle.pashkure.specs.Answer.{begin_number, done_number}
@@ -35,11 +37,11 @@ HasDesk h = h.state ≡ desk_word
 abbrev pub desk_fault : PlainConfig → ℕ → ℕ
 desk_fault c buckets = if nat_eq (config_fault c) 0 then (if is_out buckets MAX_BUCKETS then 40 else 0) else config_fault c
 
--- nobody owns a name, all buckets are free, and there is room for this many names
-pub record IsNew (names : ℕ) (h : HallState) : Type 0 where
+-- nobody owns a name; all buckets are free, and as many as asked for, by the hash of the seed; and there is room for this many names
+pub record IsNew (config : DeskConfig) (h : HallState) : Type 0 where
   pub free : HasNoNames h.desk.manager
-  pub thin : h.desk.office.desk ≡ no_desk
-  pub room : names ≤ h.room
+  pub thin : Opens (thin_config config) h.desk.office
+  pub room : config.manager.names ≤ h.room
 
 -- the manager stays, and so do the keys and the room
 pub record KeepsRest (old new : HallState) : Type 0 where

@@ -1,6 +1,7 @@
 //! The calls that open and close a desk, and that add workers.
 ghost use Rattle.std.specs.Prelude.{◌≡◌, ◌≢◌, ◌⊎◌, IfSome};
 ghost use Rattle.pashkure.specs.DeskCalls.{HasDesk, IsNew, TellsAddWorker, desk_fault};
+ghost use Rattle.pashkure.specs.Plain.{config_of};
 ghost use Rattle.pashkure.specs.WorkerCalls.{HasWorker};
 
 use crate::answer::{BAD_BUCKETS, IN_USE, NO_MEMORY, NOT_OPEN, OK};
@@ -27,7 +28,7 @@ pub extern "C" fn pashkure_desk_open(
     ensures fault { ¬ HasDesk desk.old → desk_fault config.now buckets ≢ 0 → result ≡ desk_fault config.now buckets }
     ensures no_fault { ¬ HasDesk desk.old → desk_fault config.now buckets ≡ 0 → (result ≡ 0) ⊎ (result ≡ 39) }
     ensures refused { result ≢ 0 → desk.new ≡ desk.old }
-    ensures open { result ≡ 0 → HasDesk desk.new × IsNew config.now.names desk.new.held }
+    ensures open { result ≡ 0 → HasDesk desk.new × IsNew (record { manager = config_of config.now; buckets = buckets }) desk.new.held }
 {
     if desk.is_open() {
         return IN_USE;
@@ -62,7 +63,7 @@ fn desk_fault(config: &PlainConfig, buckets: u32) -> u32
 
 /// Returns a handle of a new desk; `None` if a number is out of its range, or a request for memory was refused.
 fn open(alloc: Global, config: DeskConfig) -> Option<DeskHandle>
-    ensures { IfSome result (λ desk. HasDesk desk × IsNew config.manager.names desk.held) }
+    ensures { IfSome result (λ desk. HasDesk desk × IsNew config desk.held) }
 {
     let hall = Hall::open(alloc, config)?;
     let boxed = Box::new(alloc, hall).ok()?;

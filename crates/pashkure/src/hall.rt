@@ -29,7 +29,7 @@ impl Model for Hall {
 impl Hall {
     /// A desk of this configuration, and room for each name; `None` if a number is out of its range, or a request for memory was refused.
     pub(crate) fn open(alloc: Global, config: DeskConfig) -> Option<Hall>
-        ensures { IfSome result (IsNew config.manager.names) }
+        ensures { IfSome result (IsNew config) }
     {
         let Ok(desk) = Desk::open(alloc, config) else {
             return None;

@@ -12,4 +12,4 @@ invariant_of-result c =
     let size = c.buckets.ensures in
     let known = ap (λ (b : BooksState). b.spread.buckets) c.books.view_is in
     let same : c.begin_all.new.books.spread.buckets ≡ c.in_ok-office.office.of.spread.buckets = ap (λ (s : Spread). s.buckets) spread in
-    desk_opened c.begin_all.new.books c.in_ok-office.office c.in_ok-keys.keys.items c.in_ok-lent_to.lent_to.items c.begin_all.ensures.none c.in_ok-office.ensures.opened spread words (omega arith)
+    desk_opened c.begin_all.new.books c.in_ok-office.office c.in_ok-keys.keys.items c.in_ok-lent_to.lent_to.items c.begin_all.ensures.none c.in_ok-office.ensures.opened.desk spread words (omega arith)
