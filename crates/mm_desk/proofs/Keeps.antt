@@ -213,10 +213,9 @@ keeps_both a b c first second = record { of = second.of ∙ first.of; keys = sec
 
 pub not_adopted : (books books' : BooksState) (o : OfficeState) (keys : List Key) (at bucket : ℕ) (name : List ℕ) (refusal : Refusal) (new : DeskState) → books.spread ≡ o.of.spread → new.manager ≡ books'.manager
     → IsOffered books (slice_get keys at) bucket name refusal books' → FailsToAdopt (record { manager = books.manager; office = o; keys = keys }) bucket refusal new
-not_adopted books books' o keys at bucket name refusal new spread same (inl other) = inl other
-not_adopted books books' o keys at bucket name refusal new spread same (inr (inl none)) = inr (inl none)
-not_adopted books books' o keys at bucket name refusal new spread same (inr (inr tried)) =
-    inr (inr (tried.0, at, name, tried.1, tried.2 ∙ ap (λ (s : Spread). bucket_by s name) spread, subst (λ (m : LockState). AdoptsName books.manager tried.0 name (Err refusal) m) (sym same) tried.3))
+not_adopted books books' o keys at bucket name refusal new spread same (inl none) = inl none
+not_adopted books books' o keys at bucket name refusal new spread same (inr tried) =
+    inr (tried.0, at, name, tried.1, tried.2 ∙ ap (λ (s : Spread). bucket_by s name) spread, subst (λ (m : LockState). AdoptsName books.manager tried.0 name (Err refusal) m) (sym same) tried.3)
 
 pub same_both : (a b c : DeskState) → KeepsManager a b → KeepsManager b c → KeepsManager a c
 same_both a b c first second = record { of = second.of ∙ first.of; keys = second.keys ∙ first.keys; manager = second.manager ∙ first.manager }

@@ -18,7 +18,7 @@ use Rattle.mm_thin.specs.declared.views.RecordView.{RecordView}
 use Rattle.mm_desk.specs.declared.reply.Asked.{Asked}
 use Rattle.mm_desk.specs.declared.reply.Asked.TheVariants.{Granted, Held, Waits, Deadlock, Again}
 use Rattle.mm_manager.specs.declared.refusal.Refusal.{Refusal}
-use Rattle.mm_manager.specs.declared.refusal.Refusal.TheVariants.{NoTransaction, NotOwner, NamesFull}
+use Rattle.mm_manager.specs.declared.refusal.Refusal.TheVariants.{NoTransaction, NamesFull}
 use Rattle.mm_thin.specs.declared.views.Lent.{Lent}
 use Rattle.mm_thin.specs.Spread.{bucket_by}
 use Rattle.mm_desk.specs.Books.{BooksState}
@@ -50,10 +50,10 @@ OthersStay old k name new = (h : Key) (x : List ℕ) → Owns old h x → ((h �
 abbrev pub IsTakenOver : BooksState → Option Key → ℕ → List ℕ → Type 0
 IsTakenOver books key bucket name = (bucket ≡ bucket_by books.spread name) × ((k : Key) × (key ≡ Some k) × Owns books.manager k name)
 
--- the name is not of this bucket, or there is no transaction of this key, or the manager refuses the name
+-- the manager refuses the name; or there is no transaction of this key, or the name is not of this bucket
 abbrev pub IsOffered : BooksState → Option Key → ℕ → List ℕ → Refusal → BooksState → Type 0
 IsOffered old key bucket name refusal new =
-    (refusal ≡ NotOwner) ⊎ (refusal ≡ NoTransaction) ⊎ ((k : Key) × (key ≡ Some k) × (bucket ≡ bucket_by old.spread name) × AdoptsName old.manager k name (Err refusal) new.manager)
+    (refusal ≡ NoTransaction) ⊎ ((k : Key) × (key ≡ Some k) × (bucket ≡ bucket_by old.spread name) × AdoptsName old.manager k name (Err refusal) new.manager)
 
 -- what is fat stays fat, and owners stay; nothing else that a caller sees changes but the manager
 pub record KeepsFat (old new : DeskState) : Type 0 where
@@ -71,7 +71,7 @@ AdoptsBucket bucket (Refused refusal) new = Unit {0}
 -- a name of this bucket is not taken over: the manager refused it to the transaction of a worker; or that transaction, or the name, is not what the words said
 abbrev pub FailsToAdopt : DeskState → ℕ → Refusal → DeskState → Type 0
 FailsToAdopt old bucket refusal new =
-    (refusal ≡ NotOwner) ⊎ (refusal ≡ NoTransaction)
+    (refusal ≡ NoTransaction)
     ⊎ ((k : Key) × (at : ℕ) × (name : List ℕ) × (slice_get old.keys at ≡ Some k) × (bucket ≡ bucket_by old.office.of.spread name) × AdoptsName old.manager k name (Err refusal) new.manager)
 
 -- why a bucket was not made fat

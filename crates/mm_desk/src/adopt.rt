@@ -51,7 +51,7 @@ fn key_of_record(keys: &Vec<Key>, number: u32) -> Option<Key>
 
 /// Makes the transaction of the worker that had taken a thin bucket the owner of its name in the manager, also if it waits.
 ///
-/// Refused as the manager refuses; as `NotOwner` also if the name is of another bucket or is owned by another, which does not happen.
+/// Refused as the manager refuses; as `NoTransaction` also if the name is of another bucket or is owned by another, which does not happen.
 fn offer(books: &mut Books, key: Option<Key>, bucket: usize, name: &[u8]) -> Result<(), Refusal>
     ensures ok { OnOk result (IsTakenOver books.new key bucket name.now) }
     ensures err { OnErr result (NamesFade books.old.manager books.new.manager) }
@@ -61,7 +61,7 @@ fn offer(books: &mut Books, key: Option<Key>, bucket: usize, name: &[u8]) -> Res
     ensures spread { books.new.spread ≡ books.old.spread }
 {
     if books.spread.of(name) != bucket {
-        return Err(Refusal::NotOwner);
+        return Err(Refusal::NoTransaction);
     }
     let Some(key) = key else {
         return Err(Refusal::NoTransaction);
@@ -69,7 +69,7 @@ fn offer(books: &mut Books, key: Option<Key>, bucket: usize, name: &[u8]) -> Res
     match books.adopt(key, name) {
         Ok(TryLock::Granted) => Ok(()),
         Ok(TryLock::Held) => Ok(()),
-        Ok(TryLock::Busy { .. }) => Err(Refusal::NotOwner),
+        Ok(TryLock::Busy { .. }) => Err(Refusal::NoTransaction),
         Err(refusal) => Err(refusal),
     }
 }
