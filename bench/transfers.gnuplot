@@ -19,10 +19,7 @@ do for [n = 1:3] {
   set title count(n) . " names"
   if (n > 1) { unset ylabel; set ytics ("" 3e4, "" 1e5, "" 3e5, "" 1e6, "" 3e6, "" 1e7) }
   if (n == 2) { set key at screen 0.5, 0.15 center top maxrows 2 samplen 2 width -1 } else { set key off }
-  plot "transfers.tsv" using "threads":(column("names") == names(n) ? column("thin") : NaN) lc rgb "#000000" lw 2 pt 15 ps 0.7 title "ThinLocks", \
-    "" using "threads":(column("names") == names(n) ? column("with") : NaN) lc rgb "#8e44ad" lw 2 pt 11 ps 0.8 title "begin\\_with", \
-    "" using "threads":(column("names") == names(n) ? column("all") : NaN) lc rgb "#1f6fb2" lw 2 pt 9 ps 0.8 title "lock\\_all", \
-    "" using "threads":(column("names") == names(n) ? column("one") : NaN) lc rgb "#1f6fb2" dt 2 lw 2 pt 8 ps 0.8 title "lock, one by one", \
+  plot "transfers.tsv" using "threads":(column("names") == names(n) ? column("one") : NaN) lc rgb "#1f6fb2" lw 2 pt 9 ps 0.8 title "in Rattle", \
     "" using "threads":(column("names") == names(n) ? column("c") : NaN) lc rgb "#d68910" lw 2 pt 6 ps 0.8 title "from C", \
     "" using "threads":(column("names") == names(n) ? column("plain") : NaN) lc rgb "#c0392b" lw 2 pt 7 ps 0.6 title "plain Rust", \
     "" using "threads":(column("names") == names(n) ? column("berkeley") : NaN) lc rgb "#555555" lw 2 pt 5 ps 0.6 title "Berkeley DB 5.3", \

@@ -70,6 +70,8 @@ def moments(point: Point, call: Call) -> Iterator[tuple[Manager, str, Optional[i
     """What the next moment of a call can be: the manager after it, the stage of the call (`over` if it has its answer), and who was granted."""
     manager, thread, owner = point.manager, call.thread, point.manager.owner(call.name)
     if call.kind == "end":
+        if call.answer != "ok":
+            return
         names = manager.owned(thread)
         if not names:
             yield manager, "over", None

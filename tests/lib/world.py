@@ -191,6 +191,14 @@ class Case(unittest.TestCase):
         """Runs the program with these words."""
         return run(PROGRAM, *words, given=given if isinstance(given, bytes) else given.encode(), **how)
 
+    def built(self, crate: str) -> str:
+        """The program of another crate, which the gate builds."""
+        path = os.path.join(TOP, "crates", crate, "out", crate)
+        if not os.access(path, os.X_OK):
+            self.assertIn("TESTED_PROGRAM", os.environ, f"no program {path}, which the gate builds")
+            self.skipTest(f"no program {path}; `rt run` in crates/{crate} builds it")
+        return path
+
     def ends(self, told: Run, status: int = 0, out: "bytes | str" = b"", err: "bytes | str | None" = b"") -> Run:
         """Fails unless a run ended so. With None something, whatever it is, has to be on standard error."""
         wanted = [text if isinstance(text, bytes) or text is None else text.encode() for text in (out, err)]

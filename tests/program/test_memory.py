@@ -82,14 +82,6 @@ def explained(ample: Run, without_table: bytes) -> Judge:
 
 
 class MemoryCase(FaultCase):
-    def built(self, crate: str) -> str:
-        """The program of another crate, which the gate builds."""
-        path = os.path.join(TOP, "crates", crate, "out", crate)
-        if not os.access(path, os.X_OK):
-            self.assertIn("TESTED_PROGRAM", os.environ, f"no program {path}, which the gate builds")
-            self.skipTest(f"no program {path}; `rt run` in crates/{crate} builds it")
-        return path
-
     def with_turns(self, name: str, turns: int) -> tuple[str, int]:
         """A copy of an example with so many turns, and how many clients it has."""
         workload = json.loads(read(f"{EXAMPLES}/{name}"))
@@ -305,12 +297,12 @@ class Opened(MemoryCase):
         self.assertTrue(8 <= len(sleeps) < 200, sleeps)
         self.assertLess(len(lines), 8 * 1000)
 
-    @each([("crowd", 4, 16), ("crowd", 64, 16), ("crowd", 64, 1000), ("thin_crowd", 4, 16), ("thin_crowd", 64, 1000)])
-    def test_crowd_that_locks_names(self, way: str, threads: int, names: int) -> None:
+    @each([(4, 16), (64, 16), (64, 1000)])
+    def test_crowd_that_locks_names(self, threads: int, names: int) -> None:
         """However many transactions the threads make, the requests are those of the opening and of the starts, and no name has two owners."""
         locks, told = self.built("bench_locks"), []
         for milliseconds in "1", "60000" if IS_SLOW else "500":
-            told.append(self.counted("", locks, way, str(threads), str(names), milliseconds))
+            told.append(self.counted("", locks, "crowd", str(threads), str(names), milliseconds))
             self.assertEqual((told[-1].run.status, told[-1].run.err), (0, b""))
         few, many = (int(each.run.out.split()[1]) for each in told)
         self.assertEqual(told[0].counts.own(), told[1].counts.own(), f"{few} and {many} transactions")

@@ -28,6 +28,7 @@ WRONG = {
     "a deadlock without a cycle": "0 0 1 lock a ok\n1 2 3 lock a deadlock\n0 4 5 end - ok",
     "a time that is up for one's own name": "0 0 1 lock a ok\n0 2 3 lock a timed-out",
     "an end that gives back nothing": "0 0 1 lock a ok\n0 2 3 end - ok\n1 4 5 lock a timed-out",
+    "an end that is refused": "0 0 1 lock a ok\n0 2 3 end - refused",
     "an unlock of a name that is owned": "0 0 1 lock a ok\n0 2 3 unlock a not-owner",
     "an unlock of a name that is not": "0 0 1 unlock a ok",
     "one owns what it was told that it does not": "0 0 1 lock a ok\n1 2 3 try a busy\n0 4 5 end - ok\n1 6 7 unlock a ok",
@@ -65,6 +66,12 @@ class InC(Real, LibraryCase):
     @each(SIZES)
     def test_runs(self, threads: int, names: int, calls: int) -> None:
         self.have_orders(self.program, threads, str(threads), str(names), str(calls), str(RUNS), str(SEED))
+
+
+class InRattle(Real):
+    @each(SIZES)
+    def test_runs(self, threads: int, names: int, calls: int) -> None:
+        self.have_orders(self.built("bench_locks"), threads, "history", str(threads), str(names), str(calls // 3), str(RUNS), str(SEED))
 
 
 class InPython(Real, ExtensionCase):

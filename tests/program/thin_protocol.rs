@@ -1,5 +1,5 @@
 //! Searches all interleavings of the protocol by which names are locked: by the word of their bucket while nobody else wants them (mm_thin), and
-//! from then on in a manager behind a lock (mm_desk, mm_thin_locks).
+//! from then on in a manager behind a lock (mm_desk, mm_locks).
 //!
 //! `thin_protocol THREADS NAMES BUCKETS RECORDS ROOM CALLS [FAULT]`. Each thread makes transactions without end, and chooses its calls freely:
 //! `lock`, `commit` or a drop, and those that CALLS names: `try`, `timed`, `unlock`. It takes at most RECORDS names by their words, and the

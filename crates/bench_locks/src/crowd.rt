@@ -1,8 +1,8 @@
 //! Transactions of one to six locks, each of which looks whether it is the only owner of its names.
 
-use crate::names::{MOST, chosen, names_of};
+use crate::names::{chosen, names_of};
 use crate::shared::{Done, Shared};
-use mm_locks::{LockError, LockNames};
+use mm_locks::{LockError, Session};
 use rand_core::utils::NextWord;
 use rand_pcg::Lcg64Xsh32;
 use std::sync::Wait;
@@ -10,11 +10,8 @@ use std::sync::atomic::Ordering::SeqCst;
 use std::time::Clock;
 
 impl Shared<'_> {
-    /// Says of each of these names that it is owned, and takes that back. Returns how many were owned by another one too. Only a crowd looks.
+    /// Says of each of these names that it is owned, and takes that back. Returns how many were owned by another one too.
     fn owned_twice(&self, numbers: &[u32]) -> u64 {
-        if !self.way.is_crowd() {
-            return 0;
-        }
         let mut twice = 0u64;
         for number in numbers {
             if let Some(count) = self.owners.get(*number as usize) {
@@ -30,13 +27,14 @@ impl Shared<'_> {
     }
 }
 
-/// Locks these names, one after the other, and commits. Returns how many were owned by another one too, if the way is to look.
-pub fn visit_each<'n, T: LockNames<'n>>(
-    mut transaction: T,
+/// Locks these names, one after the other, and commits. Returns how many were owned by another one too.
+fn visit_each<R: Wait + Clock>(
+    session: &mut Session<'_, '_, R>,
     shared: &Shared<'_>,
     numbers: &[u32],
-    names: &[&'n [u8]],
+    names: &[&[u8]],
 ) -> Result<u64, LockError> {
+    let mut transaction = session.begin();
     for name in names {
         transaction.lock(name)?;
     }
@@ -46,13 +44,13 @@ pub fn visit_each<'n, T: LockNames<'n>>(
 }
 
 /// The same by one call.
-fn visit_all<R: Wait>(
-    rt: &R,
+fn visit_all<R: Wait + Clock>(
+    session: &mut Session<'_, '_, R>,
     shared: &Shared<'_>,
     numbers: &[u32],
     names: &[&[u8]],
 ) -> Result<u64, LockError> {
-    let mut transaction = shared.locks.begin(rt)?;
+    let mut transaction = session.begin();
     transaction.lock_all(names)?;
     let twice = shared.owned_twice(numbers);
     transaction.commit()?;
@@ -61,21 +59,21 @@ fn visit_all<R: Wait>(
 
 /// Locks these names, one after the other or by one call, and commits. Returns how many were owned by another one too.
 fn visit<R: Wait + Clock>(
-    rt: &R,
+    session: &mut Session<'_, '_, R>,
     shared: &Shared<'_>,
     numbers: &[u32],
     names: &[&[u8]],
     is_one_call: bool,
 ) -> Result<u64, LockError> {
     if is_one_call {
-        return visit_all(rt, shared, numbers, names);
+        return visit_all(session, shared, numbers, names);
     }
-    visit_each(shared.locks.begin(rt)?, shared, numbers, names)
+    visit_each(session, shared, numbers, names)
 }
 
 /// One transaction, be it committed or not.
 pub fn visit_by_chance<R: Wait + Clock>(
-    rt: &R,
+    session: &mut Session<'_, '_, R>,
     shared: &Shared<'_>,
     random: &mut Lcg64Xsh32,
 ) -> Done {
@@ -88,7 +86,13 @@ pub fn visit_by_chance<R: Wait + Clock>(
     let is_one_call = random.next_word() % 2 == 0;
     let numbers = chosen(random, bound, count);
     let names = names_of(shared.names, &numbers);
-    match visit(rt, shared, &numbers[..count], &names[..count], is_one_call) {
+    match visit(
+        session,
+        shared,
+        &numbers[..count],
+        &names[..count],
+        is_one_call,
+    ) {
         Ok(twice) => {
             done.commits = 1;
             done.shared = twice;

@@ -1,7 +1,7 @@
 //! Chains of transactions that wait with a time.
 
 use crate::threads::nanoseconds_since;
-use mm_locks::{LockError, Locks, ManagerConfig, Transaction};
+use mm_locks::{LockError, Locks, LocksConfig, ManagerConfig, Transaction};
 use std::alloc::{AllocError, Global};
 use std::sync::atomic::AtomicU64;
 use std::sync::atomic::Ordering::SeqCst;
@@ -18,6 +18,12 @@ const LATER: u64 = 5;
 
 /// This many milliseconds pass before the last one asks, if it alone has a time, and one more for every two of the others: they wait by then.
 const PAUSE: u64 = 10;
+
+/// How many transactions a chain has at the most.
+const LONGEST: u32 = 4_096;
+
+/// How many buckets the locks of a chain have.
+const BUCKETS: u32 = 16_384;
 
 /// How often a thread looks whether all have come back, a millisecond apart. So nobody keeps a name for much more than ten seconds.
 const LOOKS: u32 = 10_000;
@@ -85,7 +91,7 @@ impl Shared<'_> {
 
     /// Waits for the front, once for each of the chain, and takes that back at once. Each wait raises its label by one, so the front's next
     /// label is above all others of the chain.
-    fn rise<R: Wait + Clock>(&self, transaction: &mut Transaction<'_, R>) {
+    fn rise<R: Wait + Clock>(&self, transaction: &mut Transaction<'_, '_, '_, R>) {
         for _ in 0..self.chain.last {
             let _ = transaction.lock_for(&1_u16.to_be_bytes(), Duration::from_millis(0));
         }
@@ -95,7 +101,7 @@ impl Shared<'_> {
     fn time_out<R: Wait + Clock>(
         &self,
         rt: &R,
-        transaction: &mut Transaction<'_, R>,
+        transaction: &mut Transaction<'_, '_, '_, R>,
         name: &[u8],
     ) -> Option<u64> {
         thread::sleep(rt, Duration::from_millis(self.chain.ask_after()));
@@ -113,7 +119,8 @@ impl Shared<'_> {
     /// What one of the threads does: it locks its own name and then waits for that of the one before. The first one keeps its name until all
     /// requests with a time have come back.
     fn part<R: Wait + Clock>(&self, rt: &R, number: u16) -> Result<Option<u64>, LockError> {
-        let mut transaction = self.locks.begin(rt)?;
+        let mut session = self.locks.session(rt)?;
+        let mut transaction = session.begin();
         transaction.lock(&number.to_be_bytes())?;
         self.gate.wait(rt);
         if number == 0 && self.chain.is_carried {
@@ -128,7 +135,7 @@ impl Shared<'_> {
     fn wait_for_the_one_before<R: Wait + Clock>(
         &self,
         rt: &R,
-        transaction: &mut Transaction<'_, R>,
+        transaction: &mut Transaction<'_, '_, '_, R>,
         number: u16,
     ) -> Result<Option<u64>, LockError> {
         if number == 0 {
@@ -153,12 +160,15 @@ pub fn late<R: Threads + Wait + Clock + Sync>(
     alloc: Global,
     chain: Chain,
 ) -> Result<Vec<Option<u64>>, AllocError> {
-    let config = ManagerConfig {
-        transactions: 4_096,
-        names: 4_096,
-        name_bytes: 2,
-        names_each: 0,
-        seed: 7,
+    let config = LocksConfig {
+        manager: ManagerConfig {
+            transactions: LONGEST,
+            names: LONGEST,
+            name_bytes: 2,
+            names_each: 0,
+            seed: 7,
+        },
+        buckets: BUCKETS,
     };
     let Ok(locks) = Locks::open(alloc, config) else {
         return Ok(Vec::new(alloc));

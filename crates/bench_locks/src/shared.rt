@@ -2,7 +2,6 @@
 
 use crate::names::Name;
 use mm_locks::Locks;
-use mm_thin_locks::ThinLocks;
 use std::sync::Barrier;
 use std::sync::atomic::{AtomicBool, AtomicU64};
 
@@ -13,16 +12,10 @@ pub enum Way {
     One,
     /// Transactions of four locks by one call.
     All,
-    /// The same by the call that begins the transaction.
-    With,
-    /// The same by `Locks::run`.
+    /// The same by `run`.
     Run,
     /// Transactions of one to six locks, each of which looks whether it is the only owner of its names.
     Crowd,
-    /// Transactions of four locks at the `ThinLocks`, one after the other.
-    Thin,
-    /// Those of `Crowd` at the `ThinLocks`.
-    ThinCrowd,
     /// One owns a name until the end, and the others wait for it.
     Sleep,
 }
@@ -33,19 +26,11 @@ impl Way {
         match name {
             "one" => Some(Way::One),
             "all" => Some(Way::All),
-            "with" => Some(Way::With),
             "run" => Some(Way::Run),
             "crowd" => Some(Way::Crowd),
-            "thin" => Some(Way::Thin),
-            "thin_crowd" => Some(Way::ThinCrowd),
             "sleep" => Some(Way::Sleep),
             _ => None,
         }
-    }
-
-    /// Whether its transactions look whether they are the only owners of their names.
-    pub fn is_crowd(self) -> bool {
-        matches!(self, Way::Crowd | Way::ThinCrowd)
     }
 }
 
@@ -53,7 +38,6 @@ impl Way {
 #[derive(Drop)]
 pub struct Shared<'a> {
     pub locks: &'a Locks,
-    pub thin: &'a ThinLocks,
     pub names: &'a [Name],
     /// By name, how many believe that they own it.
     pub owners: &'a [AtomicU64],

@@ -3,10 +3,8 @@
 use crate::crowd::visit_by_chance;
 use crate::names::Name;
 use crate::shared::{Done, Shared, Way};
-use crate::thin::work_thinly;
 use crate::transfers::transfer_at_last;
-use mm_locks::{LockError, Locks};
-use mm_thin_locks::ThinLocks;
+use mm_locks::{LockError, Locks, Session};
 use rand_pcg::Lcg64Xsh32;
 use std::alloc::{AllocError, Global};
 use std::sync::atomic::Ordering::SeqCst;
@@ -48,7 +46,8 @@ fn sleep_beside<R: Wait + Clock>(
     shared: &Shared<'_>,
     milliseconds: u32,
 ) -> Result<Done, LockError> {
-    let mut transaction = shared.locks.begin(rt)?;
+    let mut session = shared.locks.session(rt)?;
+    let mut transaction = session.begin();
     transaction.lock(BED)?;
     shared.gate.wait(rt);
     let done = stop_after(rt, shared, milliseconds);
@@ -57,9 +56,9 @@ fn sleep_beside<R: Wait + Clock>(
 }
 
 /// A transaction that waits until the one who owns the name is done.
-fn sleep<R: Wait>(rt: &R, locks: &Locks) -> Done {
+fn sleep<R: Wait + Clock>(session: &mut Session<'_, '_, R>) -> Done {
     let mut done = Done::NOTHING;
-    let answer = locks.run(rt, 1, |transaction| -> Result<(), LockError> {
+    let answer = mm_locks::run(session.begin(), 1, |transaction| -> Result<(), LockError> {
         transaction.lock(BED)?;
         Ok(())
     });
@@ -71,7 +70,7 @@ fn sleep<R: Wait>(rt: &R, locks: &Locks) -> Done {
 }
 
 /// Makes transactions until it is to stop.
-fn work<R: Wait + Clock>(rt: &R, shared: &Shared<'_>, seed: u64) -> Done {
+fn work<R: Wait + Clock>(session: &mut Session<'_, '_, R>, shared: &Shared<'_>, seed: u64) -> Done {
     let mut random = Lcg64Xsh32::new(seed, 0);
     let mut done = Done::NOTHING;
     for _ in 0..u64::MAX {
@@ -79,29 +78,35 @@ fn work<R: Wait + Clock>(rt: &R, shared: &Shared<'_>, seed: u64) -> Done {
             break;
         }
         done = done.and(match shared.way {
-            Way::Crowd => visit_by_chance(rt, shared, &mut random),
-            _ => transfer_at_last(rt, shared, &mut random),
+            Way::Crowd => visit_by_chance(session, shared, &mut random),
+            _ => transfer_at_last(session, shared, &mut random),
         });
     }
     done
 }
 
-/// What one of the threads does: the first one lets the others work.
-fn part<R: Wait + Clock>(rt: &R, shared: &Shared<'_>, milliseconds: u32, number: usize) -> Done {
+/// What the first thread does: it lets the others work.
+fn first_part<R: Wait + Clock>(rt: &R, shared: &Shared<'_>, milliseconds: u32) -> Done {
     if let Way::Sleep = shared.way {
-        if number == 0 {
-            return sleep_beside(rt, shared, milliseconds).unwrap_or(Done::NOTHING);
-        }
-        shared.gate.wait(rt);
-        return sleep(rt, shared.locks);
+        return sleep_beside(rt, shared, milliseconds).unwrap_or(Done::NOTHING);
     }
     shared.gate.wait(rt);
+    stop_after(rt, shared, milliseconds)
+}
+
+/// What one of the threads does, by one session if it is not the first.
+fn part<R: Wait + Clock>(rt: &R, shared: &Shared<'_>, milliseconds: u32, number: usize) -> Done {
     if number == 0 {
-        return stop_after(rt, shared, milliseconds);
+        return first_part(rt, shared, milliseconds);
     }
+    let session = shared.locks.session(rt);
+    shared.gate.wait(rt);
+    let Ok(mut session) = session else {
+        return Done::NOTHING;
+    };
     match shared.way {
-        Way::Thin | Way::ThinCrowd => work_thinly(rt, shared, number as u64),
-        _ => work(rt, shared, number as u64),
+        Way::Sleep => sleep(&mut session),
+        _ => work(&mut session, shared, number as u64),
     }
 }
 
@@ -110,7 +115,6 @@ pub fn timed<'a, R: Threads + Wait + Clock + Sync>(
     rt: &R,
     alloc: Global,
     locks: &'a Locks,
-    thin: &'a ThinLocks,
     names: &'a [Name],
     owners: &'a [AtomicU64],
     way: Way,
@@ -122,7 +126,6 @@ pub fn timed<'a, R: Threads + Wait + Clock + Sync>(
     let stop = AtomicBool::new(false);
     let shared = Shared {
         locks,
-        thin,
         names,
         owners,
         way,

@@ -2,13 +2,14 @@
 //! close a cycle of waits: the one that is told of the deadlock is rolled back, and made again. The sum of all accounts stays the same.
 #![tactic(auto)]
 
-use mm_locks::{LockError, Locks, ManagerConfig};
+use mm_locks::{LockError, Locks, LocksConfig, ManagerConfig, Session};
 use std::alloc::Global;
 use std::io::Eprint;
 use std::sync::Wait;
 use std::sync::atomic::AtomicU64;
 use std::sync::atomic::Ordering::SeqCst;
 use std::thread::Threads;
+use std::time::Clock;
 use std::{io, thread};
 
 const THREADS: usize = 8;
@@ -43,14 +44,13 @@ fn move_money(from: &Account, to: &Account, amount: u64) {
 }
 
 /// A transfer under the locks of both accounts, made again after a deadlock.
-fn transfer<R: Wait>(
-    rt: &R,
-    locks: &Locks,
+fn transfer<R: Wait + Clock>(
+    session: &mut Session<'_, '_, R>,
     from: &Account,
     to: &Account,
     amount: u64,
 ) -> Result<(), LockError> {
-    locks.run(rt, ATTEMPTS, |transaction| {
+    mm_locks::run(session.begin(), ATTEMPTS, |transaction| {
         transaction.lock_all(&[from.name, to.name])?;
         move_money(from, to, amount);
         Ok(())
@@ -58,17 +58,18 @@ fn transfer<R: Wait>(
 }
 
 /// Makes the transfers of one thread, and returns how many were made.
-fn make_transfers<R: Wait>(
+fn make_transfers<R: Wait + Clock>(
     rt: &R,
     locks: &Locks,
     accounts: &[Account; 4],
     number: usize,
 ) -> Result<u64, LockError> {
+    let mut session = locks.session(rt)?;
     let mut made: u64 = 0;
     for round in 0..TRANSFERS {
         let from = (number % THREADS + round) % 4;
         let to = (from + 1 + round % 3) % 4;
-        transfer(rt, locks, &accounts[from], &accounts[to], 7)?;
+        transfer(&mut session, &accounts[from], &accounts[to], 7)?;
         made = made.saturating_add(1);
     }
     Ok(made)
@@ -85,7 +86,7 @@ fn sum_of(accounts: &[Account; 4]) -> u64 {
 
 /// Makes all transfers, and prints how many were made, and the sum. How many deadlocks there were differs from run to run, and goes to
 /// standard error.
-fn run<R: Threads + Wait + Print + Eprint + Sync>(
+fn run<R: Threads + Wait + Clock + Print + Eprint + Sync>(
     rt: &R,
     alloc: Global,
     locks: &Locks,
@@ -116,12 +117,15 @@ fn run<R: Threads + Wait + Print + Eprint + Sync>(
 }
 
 fn main(rt: HostRuntime) -> io::Result<()> {
-    let config = ManagerConfig {
-        transactions: 8,
-        names: 4,
-        name_bytes: 16,
-        names_each: 0,
-        seed: 1,
+    let config = LocksConfig {
+        manager: ManagerConfig {
+            transactions: 8,
+            names: 4,
+            name_bytes: 16,
+            names_each: 0,
+            seed: 1,
+        },
+        buckets: 16,
     };
     match Locks::open(rt.alloc(), config) {
         Ok(locks) => {

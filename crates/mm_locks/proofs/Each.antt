@@ -1,70 +1,40 @@
--- What comes of names that are asked for in their order, by what comes of the first one.
-use Rattle.std.proofs.Common.{◌≡◌, ◌+◌, ℕ, zero, suc, List, [], ◌∷◌, drop, slice_get, Some, None, Result, Ok, Err, Bor, inl, inr, refl, sym, subst, ap, arith}
-use Rattle.mm_arena.specs.declared.key.Key.{Key}
-use Rattle.mm_manager.specs.LockState.{LockState, Owns}
-use Rattle.mm_manager.specs.Permit.{may_ask}
-use Rattle.mm_manager.proofs.Lemmas.Answered.{granted_asks_more, request_asks}
-use Rattle.mm_locks.specs.Calls.{Receives, Asks, AsksEach, GoesOn, Finds, bytes_of, rest}
-use Rattle.mm_locks.specs.declared.monitor.Outcome.TheVariants as outcome
-use Rattle.mm_locks.specs.declared.monitor.tokens.GrantedUpTo.{GrantedUpTo}
+-- Names that are locked one after another.
+use Rattle.std.proofs.Common.{◌≡◌, ◌++◌, ◌+◌, ◌<◌, ℕ, List, [], ◌∷◌, length, take, drop, Option, Some, None, Ok, Err, inl, inr, refl, sym, ◌∙◌, subst}
+use Rattle.std.proofs.Math.ListN.{get_or}
+use Rattle.std.proofs.lemmas.List.{at_drop_more, map-append, map_more, take-append-drop}
+use Rattle.std.specs.Borrow.{Bor}
 use Rattle.mm_locks.specs.declared.error.LockError.{LockError}
+use Rattle.mm_locks.specs.declared.session.Session.{Session}
+use Rattle.mm_locks.specs.declared.tokens.Granted.{Granted}
+use Rattle.mm_locks.specs.Told.{LocksEachSo, LocksSo, bytes_of}
 
--- ---- the names that are left
+module _ {R : Type 0} where
+  pub each_then : (old mid new : Session R) (xs ys : List (List ℕ)) (refused : Option LockError) → LocksEachSo old xs None mid → LocksEachSo mid ys refused new → LocksEachSo old (xs ++ ys) refused new
+  each_then old mid new [] ys refused first second = subst (λ (s : Session R). LocksEachSo s ys refused new) first.1 second
+  each_then old mid new (x ∷ xs) ys refused (inl first) second = inl (first.0, first.1, first.2, each_then first.0 mid new xs ys refused first.3 second)
+  each_then old mid new (x ∷ xs) ys refused (inr first) second = absurd (cc first.1)
 
--- the first one of them, and those behind it
-first_left : (names : List (Bor (List ℕ))) (i : ℕ) (one : Bor (List ℕ)) → Some one ≡ slice_get names i → drop i (bytes_of names) ≡ one.now ∷ drop (suc i) (bytes_of names)
-first_left [] i one is = absurd (cc is)
-first_left (name ∷ names) zero one is = let same : one ≡ name = cc is in ap (λ (n : Bor (List ℕ)). n.now ∷ bytes_of names) (sym same)
-first_left (name ∷ names) (suc i) one is = first_left names i one is
+  -- one name more
+  pub each_more : (old mid new : Session R) (xs : List (List ℕ)) (x : List ℕ) (granted : Granted) → LocksEachSo old xs None mid → LocksSo mid x (Ok granted) new → LocksEachSo old (xs ++ x ∷ []) None new
+  each_more old mid new xs x granted first second = each_then old mid new xs (x ∷ []) None first (inl (new, granted, second, (refl, refl)))
 
-none_left : (names : List (Bor (List ℕ))) (i : ℕ) → None ≡ slice_get names i → drop i (bytes_of names) ≡ []
-none_left [] zero is = refl
-none_left [] (suc i) is = refl
-none_left (name ∷ names) zero is = absurd (cc is)
-none_left (name ∷ names) (suc i) is = none_left names i is
+  -- the next name is refused
+  pub each_refused : (old mid new : Session R) (xs ys : List (List ℕ)) (x : List ℕ) (error : LockError) → LocksEachSo old xs None mid → LocksSo mid x (Err error) new
+      → LocksEachSo old (xs ++ x ∷ ys) (Some error) new
+  each_refused old mid new xs ys x error first second = each_then old mid new xs (x ∷ ys) (Some error) first (inr (error, refl, second))
 
--- ---- they are asked for
+module _ {R : Type 0} (old mid new : Session R) (names : List (Bor (List ℕ))) (n : ℕ) (d : Bor (List ℕ)) (low : n < length names) (first : LocksEachSo old (bytes_of (take n names)) None mid) where
+  -- the next of the names is locked
+  pub goes_on_to : (granted : Granted) → LocksSo mid (get_or names n d).now (Ok granted) new → LocksEachSo old (bytes_of (take (n + 1) names)) None new
+  goes_on_to granted locks =
+      subst (λ (xs : List (List ℕ)). LocksEachSo old xs None new) (sym (map_more (λ (name : Bor (List ℕ)). name.now) names n d low))
+      (each_more old mid new (bytes_of (take n names)) (get_or names n d).now granted first locks)
 
--- who owns a name by its request may ask for more
-pub received_asks : (old new : LockState) (k : Key) (name : List ℕ) → Receives old k name new → may_ask new.table k ≡ Ok tt
-received_asks old new k name (inl granted) = granted_asks_more old.table new.table k granted.step.0 granted.step.2
-received_asks old new k name (inr held) = subst (λ s. may_ask s k ≡ Ok tt) (sym held.step.1) (request_asks old.table old.names.name_bytes k name held.may)
-
-module _ (m new : LockState) (j k : Key) (same : j ≡ k) (so_far : GrantedUpTo) (one : Bor (List ℕ)) (is : Some one ≡ slice_get so_far.names.now so_far.place) where
-  pub owns_first : (mid : LockState) (next : GrantedUpTo) (answer : Result (List (List ℕ)) LockError) → next.names.now ≡ so_far.names.now → next.place ≡ so_far.place + 1
-      → Receives m j one.now mid → AsksEach mid k (rest next) answer new → AsksEach m k (rest so_far) answer new
-  owns_first mid next answer names place asks each =
-      let behind : next.place ≡ suc so_far.place = omega arith in
-      let left : rest next ≡ drop (suc so_far.place) (bytes_of so_far.names.now) = cc in
-      rw (first_left so_far.names.now so_far.place one is) (inl (mid, subst (λ h. Receives m h one.now mid) same asks, subst (λ ns. AsksEach mid k ns answer new) left each))
-
-  pub waits_for_first : Asks m j one.now (Ok outcome.Waits) new → AsksEach m k (rest so_far) (Ok (rest so_far)) new
-  waits_for_first asks = rw (first_left so_far.names.now so_far.place one is) (inr (inl (refl, subst (λ h. Asks m h one.now (Ok outcome.Waits) new) same asks)))
-
-  pub first_is_refused : (error : LockError) → Asks m j one.now (Err error) new → AsksEach m k (rest so_far) (Err error) new
-  first_is_refused error asks = rw (first_left so_far.names.now so_far.place one is) (inr (inr (error, refl, subst (λ h. Asks m h one.now (Err error) new) same asks)))
-
-  -- ---- the same by one who waited for the first name
-
-  pub goes_on_behind : (next : GrantedUpTo) (answer : Result (List (List ℕ)) LockError) → next.names.now ≡ so_far.names.now → next.place ≡ so_far.place + 1
-      → Owns m j one.now → AsksEach m k (rest next) answer new → GoesOn m k (rest so_far) answer new
-  goes_on_behind next answer names place owns each =
-      let behind : next.place ≡ suc so_far.place = omega arith in
-      let left : rest next ≡ drop (suc so_far.place) (bytes_of so_far.names.now) = cc in
-      rw (first_left so_far.names.now so_far.place one is) (inl (subst (λ h. Owns m h one.now) same owns, subst (λ ns. AsksEach m k ns answer new) left each))
-
-module _ (m : LockState) (j k : Key) (same : j ≡ k) (so_far : GrantedUpTo) (one : Bor (List ℕ)) (is : Some one ≡ slice_get so_far.names.now so_far.place) where
-  pub waits_on : Finds m j one.now (Ok outcome.Waits) → GoesOn m k (rest so_far) (Ok (rest so_far)) m
-  waits_on finds = rw (first_left so_far.names.now so_far.place one is) (inr (inl (refl, subst (λ h. Finds m h one.now (Ok outcome.Waits)) same finds, refl)))
-
-  pub wait_has_ended : (error : LockError) → Finds m j one.now (Err error) → GoesOn m k (rest so_far) (Err error) m
-  wait_has_ended error finds = rw (first_left so_far.names.now so_far.place one is) (inr (inr (error, refl, subst (λ h. Finds m h one.now (Err error)) same finds, refl)))
-
--- ---- none is left
-
-module _ (m : LockState) (k : Key) (so_far : GrantedUpTo) (is : None ≡ slice_get so_far.names.now so_far.place) where
-  pub has_asked_for_all : AsksEach m k (rest so_far) (Ok (rest so_far)) m
-  has_asked_for_all = rw (none_left so_far.names.now so_far.place is) (refl, refl)
-
-  pub waits_for_none : GoesOn m k (rest so_far) (Ok (rest so_far)) m
-  waits_for_none = rw (none_left so_far.names.now so_far.place is) (refl, refl)
+  -- the next of the names is refused
+  pub stops_at : (error : LockError) → LocksSo mid (get_or names n d).now (Err error) new → LocksEachSo old (bytes_of names) (Some error) new
+  stops_at error locks =
+      let x = get_or names n d in
+      let parts : take n names ++ x ∷ drop (n + 1) names ≡ names = sym (at_drop_more (λ (ys : List (Bor (List ℕ))). take n names ++ ys) names n d low) ∙ take-append-drop n names in
+      subst (λ (ys : List (Bor (List ℕ))). LocksEachSo old (bytes_of ys) (Some error) new) parts
+      (subst (λ (xs : List (List ℕ)). LocksEachSo old xs (Some error) new) (sym (map-append (λ (name : Bor (List ℕ)). name.now) (take n names) (x ∷ drop (n + 1) names)))
+      (each_refused old mid new (bytes_of (take n names)) (bytes_of (drop (n + 1) names)) x.now error first locks))

@@ -5,8 +5,6 @@ use Rattle.mm_manager.specs.declared.refusal.Refusal.TheVariants as refused
 use Rattle.mm_locks.specs.declared.error.LockError.{LockError}
 use Rattle.mm_locks.specs.declared.error.LockError.TheVariants.{Deadlock, NameEmpty, NameTooLong, NotOwner, TransactionsFull, NamesFull, TooManyNames, LabelsFull, CountsFull, NotActive}
 
--- ---- refusals
-
 -- no refusal is `TimedOut` or `Deadlock`
 abbrev pub error_of : Refusal → LockError
 error_of refused.NameEmpty = NameEmpty
@@ -27,13 +25,7 @@ Because Refuses error = (refusal : Refusal) × Refuses refusal × (error ≡ err
 
 -- ---- the errors of each call
 
--- of `begin`
-abbrev pub of_begin : LockError → Bool
-of_begin TransactionsFull = true
-of_begin CountsFull = true
-of_begin error = false
-
--- of a request for names, but for a time that is up
+-- of a request for a name, but for a time that is up
 abbrev pub of_lock : LockError → Bool
 of_lock Deadlock = true
 of_lock NameEmpty = true

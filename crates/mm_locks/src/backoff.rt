@@ -2,7 +2,6 @@
 ghost use Rattle.std.specs.Prelude.{◌≡◌, ◌*◌, ◌<◌, ◌≤◌, min};
 ghost use Rattle.std.specs.Duration.{as_nanos};
 
-use mm_manager::Key;
 use rand_core::utils::NextWord;
 use rand_pcg::Lcg64Xsh32;
 use std::time::Duration;
@@ -16,6 +15,8 @@ const MAX_BOUND: u32 = 32_768;
 /// Pauses of random lengths, each below a bound that is twice the one before, up to 33 milliseconds.
 #[derive(Clone, Copy)]
 pub struct Backoff {
+    /// Who pauses.
+    at: u32,
     /// The bound of the pause that comes next, in microseconds.
     bound: u32,
     ghost some: { 0 < bound },
@@ -23,18 +24,19 @@ pub struct Backoff {
 }
 
 impl Backoff {
-    pub fn first() -> Backoff
+    /// The pauses of the session of this place.
+    pub fn first(at: u32) -> Backoff
         ensures { result.bound ≡ 32 }
     {
-        Backoff { bound: FIRST }
+        Backoff { at, bound: FIRST }
     }
 
-    /// Returns the pause after the attempt of this transaction. No two live transactions have one key, so those that met get lengths of their own.
-    pub fn next(&mut self, key: Key) -> Duration
+    /// Returns the next pause. No two sessions have one place, so those that met get lengths of their own.
+    pub fn next(&mut self) -> Duration
         ensures below { as_nanos result < 1_000 * self.old.bound }
         ensures doubles { self.new.bound ≡ min (2 * self.old.bound) 32_768 }
     {
-        let seed = (u64::from(key.process) << 32) | u64::from(key.generation);
+        let seed = (u64::from(self.at) << 32) | u64::from(self.bound);
         let mut words = Lcg64Xsh32::new(seed, 0);
         let pause = words.next_word() % self.bound;
         self.bound = (2 * self.bound).min(MAX_BOUND);

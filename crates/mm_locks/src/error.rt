@@ -36,14 +36,13 @@ pub enum LockError {
 }
 
 impl LockError {
-    ghost use Rattle.std.specs.Prelude.{◌≡◌, ◌≢◌};
+    ghost use Rattle.std.specs.Prelude.{◌≡◌};
     ghost use Rattle.mm_locks.specs.Errors.{error_of};
 
     /// Returns what a refusal of the manager means.
     #[inline(never)]
     pub fn of_refusal(refusal: Refusal) -> LockError
-        ensures error { result ≡ error_of refusal }
-        ensures in_time { result ≢ LockError.TimedOut }
+        ensures { result ≡ error_of refusal }
     {
         match refusal {
             Refusal::NameEmpty => LockError::NameEmpty,

@@ -1,27 +1,38 @@
 //! What threads share.
-ghost use Rattle.std.specs.Prelude.{◌≡◌, ◌⊎◌, ◌↔◌, true, Err, IfErr, IfOk};
-ghost use Rattle.mm_locks.specs.Errors.{of_begin, of_lock, of_unlock, of_commit};
-ghost use Rattle.mm_locks.specs.Granted.{IsFor, IsForAll};
+ghost use Rattle.std.specs.Prelude.{◌≡◌, ◌↔◌, Err, IfErr};
 ghost use Rattle.mm_manager.specs.Opening.{IsTransactionsOut, IsNamesOut, IsNameBytesOut};
+ghost use Rattle.mm_manager.specs.declared.refusal.OpenError.TheVariants as manager;
+ghost use Rattle.mm_thin.specs.declared.config.OpenError.TheVariants as office;
+ghost use Rattle.mm_desk.specs.declared.error.OpenError.TheVariants as desk;
+ghost use Rattle.mm_desk.specs.Opening.{AreBucketsOut};
+ghost use Rattle.mm_locks.specs.Opening.{desk_config, IsRefused};
+ghost use Rattle.mm_locks.specs.declared.error.LockError.TheVariants.{TransactionsFull};
 
 use crate::error::LockError;
-use crate::monitor::{Granted, GrantedUpTo, Monitor};
+use crate::hall::Hall;
+use crate::history::{DeskStory, Event};
+use crate::opening::{LocksConfig, OpenError};
 use crate::parkers::Parkers;
-use crate::transaction::Transaction;
+use crate::session::Session;
 use crate::wakes::{PendingWakes, Wakes};
-use mm_manager::{Key, LockManager, ManagerConfig, OpenError, Totals};
-use mm_mutex::{Guard, YieldingMutex};
+use mm_desk::{Desk, DeskConfig, Room};
+use mm_manager::Totals;
+use mm_mutex::Awake;
+use mm_thin::Worker;
+use mm_tied::TiedMutex;
 use std::alloc::{AllocError, Global};
+use std::marker::Brand;
 use std::sync::Wait;
+use std::time::Clock;
 
-/// A lock manager that threads share by reference: a `LockManager` behind one lock, and beside it a place to sleep for each transaction.
+/// Locks by name that threads share by reference. A name that nobody waits for is locked by one compare-and-swap, and given back by another,
+/// and no lock is taken for that. As soon as a second transaction asks for it, a lock manager behind one lock knows its owner and who waits,
+/// so that a deadlock is told at once, to the one who closed it.
 ///
-/// Each call takes the lock, makes one call of the manager, lets go, and wakes exactly those that the call granted a name. So a call may wait
-/// for the lock, and `Transaction::lock` for a name too, but nobody sleeps under the lock. What the manager promises holds of whatever stands
-/// behind the lock at any time (`LockManager::keeps_laws`). No call but `open` takes memory.
+/// Each thread has a `Session`. No call but `open` takes memory.
 pub struct Locks {
     parkers: Parkers,
-    monitor: YieldingMutex<Monitor>,
+    pub(crate) hall: TiedMutex<Hall, Desk, Event, DeskStory>,
 }
 
 // By hand, so that a crate that drops locks proves nothing of how their parts are dropped.
@@ -29,169 +40,121 @@ impl Drop for Locks {
     fn drop(self) {
         let Locks {
             parkers: _,
-            monitor: _,
+            hall: _,
         } = self;
     }
 }
 
-/// Where threads sleep, and who is to be woken.
-#[derive(Drop)]
-struct Room {
-    parkers: Parkers,
-    pending: PendingWakes,
-}
-
-impl Room {
-    /// Returns room for this many transactions.
-    fn open(alloc: Global, transactions: u32) -> Result<Room, AllocError> {
-        let parkers = Parkers::open(alloc, transactions)?;
-        let pending = PendingWakes::open(alloc, transactions)?;
-        Ok(Room { parkers, pending })
-    }
-}
-
 impl Locks {
-    /// Locks of this configuration: no transaction is live, and nobody owns a name.
+    /// Locks of this configuration: nobody owns a name.
     ///
-    /// Refused as `LockManager::open` is: as `Transactions`, `Names` or `NameBytes` exactly if that number is out of its range and those
-    /// before it are not, and as `Memory` only if a request for memory was refused. This is the one call that takes memory: what
-    /// `LockManager::open` takes, and for each transaction a cache line, in which its thread sleeps, and a bit.
-    pub fn open(alloc: Global, config: ManagerConfig) -> Result<Locks, OpenError>
-        ensures transactions { (result ≡ Err OpenError.Transactions) ↔ IsTransactionsOut config }
-        ensures names { (result ≡ Err OpenError.Names) ↔ (¬ IsTransactionsOut config × IsNamesOut config) }
-        ensures name_bytes { (result ≡ Err OpenError.NameBytes) ↔ (¬ IsTransactionsOut config × ¬ IsNamesOut config × IsNameBytesOut config) }
+    /// This is the one call that takes memory: what `LockManager::open` takes, 16 bytes a bucket, 12 a name of the manager, and for each
+    /// transaction a worker with eighteen names of 64 bytes and a cache line in which its thread sleeps. While it opens it takes 8 bytes a bucket
+    /// and the names once more. Refused as the desk is, for a number that is out of its range, and otherwise only if a request for memory was
+    /// refused.
+    pub fn open(alloc: Global, config: LocksConfig) -> Result<Locks, OpenError>
+        ensures buckets { (result ≡ Err (OpenError.Desk (desk.Office office.Buckets))) ↔ AreBucketsOut (desk_config config) }
+        ensures transactions { (result ≡ Err (OpenError.Desk (desk.Manager manager.Transactions))) ↔ (¬ AreBucketsOut (desk_config config) × IsTransactionsOut config.manager) }
+        ensures names { (result ≡ Err (OpenError.Desk (desk.Manager manager.Names))) ↔ (¬ AreBucketsOut (desk_config config) × ¬ IsTransactionsOut config.manager × IsNamesOut config.manager) }
+        ensures name_bytes { (result ≡ Err (OpenError.Desk (desk.Manager manager.NameBytes))) ↔ (¬ AreBucketsOut (desk_config config) × ¬ IsTransactionsOut config.manager × ¬ IsNamesOut config.manager × IsNameBytesOut config.manager) }
+        ensures refused { IfErr result IsRefused }
     {
-        let manager = LockManager::open(alloc, config)?;
-        let room = Room::open(alloc, config.transactions)?;
-        Ok(Locks::of(manager, room))
-    }
-
-    fn of(manager: LockManager, room: Room) -> Locks {
-        let Room { parkers, pending } = room;
-        let monitor = Monitor::new(manager, pending);
-        Locks {
-            parkers,
-            monitor: YieldingMutex::new(monitor),
+        let numbers = DeskConfig {
+            manager: config.manager,
+            buckets: config.buckets,
+        };
+        match Desk::open(alloc, numbers) {
+            Ok(desk) => open_over(alloc, desk, config),
+            Err(error) => Err(OpenError::Desk(error)),
         }
     }
 
-    /// Begins a transaction. It ends by `commit`; if it is dropped it is rolled back.
-    ///
-    /// Refused as `TransactionsFull` or `CountsFull`. Constant time.
-    pub fn begin<'m, R: Wait>(&'m self, rt: &'m R) -> Result<Transaction<'m, R>, LockError>
-        ensures refused { IfErr result (λ error. of_begin error ≡ true) }
-    {
-        let key = self.monitor(rt).inside().begin()?;
-        self.begun(rt, key)
-    }
-
-    /// Begins a transaction and locks these names for it in the order given: `begin` and then `Transaction::lock_all`, but both under one
-    /// taking of the manager's lock. Returns the transaction, and a token which says that it owned each of the names.
-    ///
-    /// Refused as `begin` is, and as `lock_all` is; a transaction that began is then rolled back. It costs what the two calls cost.
-    pub fn begin_with<'m, 'n, R: Wait>(
+    /// Returns a session, which makes one transaction at a time. Refused as `TransactionsFull` if there are as many sessions as transactions.
+    pub fn session<'r, 'm, R: Wait + Clock>(
         &'m self,
-        rt: &'m R,
-        names: &'n [&'n [u8]],
-    ) -> Result<(Transaction<'m, R>, GrantedUpTo<'n>), LockError>
-        ensures granted { IfOk result (λ begun. IsForAll begun.0.key names.now begun.1) }
-        ensures refused { IfErr result (λ error. (of_begin error ≡ true) ⊎ (of_lock error ≡ true)) }
+        rt: &'r R,
+    ) -> Result<Session<'r, 'm, R>, LockError>
+        ensures refused { IfErr result (λ error. error ≡ TransactionsFull) }
     {
-        let (key, so_far) = self.monitor(rt).inside().begin_with(names)?;
-        let mut transaction = self.begun(rt, key)?;
-        match so_far {
-            Ok(so_far) => {
-                let granted = transaction.go_on(so_far)?;
-                Ok((transaction, granted))
-            }
-            Err(error) => Err(transaction.note(error)),
+        match self.take_worker(rt) {
+            Some(worker) => Ok(Session::new(rt, self, worker)),
+            None => Err(LockError::TransactionsFull),
         }
     }
 
-    /// Returns the transaction of a key that has just begun.
-    fn begun<'m, R: Wait>(&'m self, rt: &'m R, key: Key) -> Result<Transaction<'m, R>, LockError>
-        ensures key { IfOk result (λ transaction. transaction.key ≡ key) }
-        ensures refused { IfErr result (λ error. of_begin error ≡ true) }
-    {
-        match self.parkers.of(key.process) {
-            Some(parker) => Ok(Transaction::new(rt, self, parker, key)),
-            // There is a parker for each process of the manager.
-            None => {
-                self.roll_back(rt, key);
-                Err(LockError::TransactionsFull)
+    /// Returns what the manager counted since the opening. It counts no transaction whose names nobody else asked for. Constant time.
+    pub fn totals<R: Wait + Clock>(&self, rt: &R) -> Totals {
+        let mut pass = self.hall.pass();
+        self.hall.take_by_clock(rt, &mut pass);
+        let totals = pass.slot_mut(self.hall.steps(), 0).totals();
+        self.hall.put::<Brand, _>(&mut pass, &());
+        totals
+    }
+
+    /// A worker for a session.
+    fn take_worker<R: Wait + Clock>(&self, rt: &R) -> Option<Worker> {
+        let mut pass = self.hall.pass();
+        self.hall.take_by_clock(rt, &mut pass);
+        let worker = pass.slot_mut(self.hall.steps(), 0).take_worker();
+        self.hall.put::<Brand, _>(&mut pass, &());
+        worker
+    }
+
+    /// Stays away from the lock for as long as a thread that waits for it may stay awake, so that others have their turn.
+    pub(crate) fn give_way<R: Wait + Clock>(&self, rt: &R) {
+        let awake = Awake::new(rt);
+        for _ in rt.forever() {
+            if !awake.stay_away(rt, 1) {
+                return;
             }
         }
+        unreachable!()
     }
 
-    /// Takes the lock. A thread that is to sleep lets go of the guard before: a `match` on what a call answers would keep it.
-    #[inline(always)]
-    pub(crate) fn monitor<R: Wait>(&self, rt: &R) -> Guard<'_, Monitor> {
-        self.monitor.take(rt)
+    /// Where the thread of a process's transaction sleeps.
+    pub(crate) fn parkers(&self) -> &Parkers {
+        &self.parkers
     }
 
-    /// `Monitor::take_back`.
-    pub(crate) fn take_back<'n, R: Wait>(
-        &self,
-        rt: &R,
-        key: Key,
-        name: &'n [u8],
-    ) -> Result<Granted<'n>, LockError>
-        ensures granted { IfOk result (IsFor key name.now) }
-        ensures refused { IfErr result (λ error. (error ≡ LockError.TimedOut) ⊎ (error ≡ LockError.NotActive)) }
-    {
-        self.monitor(rt).inside().take_back(key, name)
+    /// Takes in the worker of a session that has ended.
+    pub(crate) fn take_in<R: Wait + Clock>(&self, rt: &R, worker: Worker) {
+        let mut pass = self.hall.pass();
+        self.hall.take_by_clock(rt, &mut pass);
+        pass.slot_mut(self.hall.steps(), 0).take_in(worker);
+        self.hall.put::<Brand, _>(&mut pass, &());
     }
 
-    /// `Monitor::unlock`, and wakes the processes whose waits it ended.
-    pub(crate) fn unlock<R: Wait>(&self, rt: &R, key: Key, name: &[u8]) -> Result<(), LockError>
-        ensures refused { IfErr result (λ error. of_unlock error ≡ true) }
-    {
-        let mut wakes = Wakes::new();
-        let answer = self.monitor(rt).inside().unlock(key, name, &mut wakes);
-        self.wake(rt, &wakes);
-        answer
-    }
-
-    /// `Monitor::commit`, and wakes the processes whose waits it ended.
-    pub(crate) fn commit<R: Wait>(&self, rt: &R, key: Key) -> Result<(), LockError>
-        ensures refused { IfErr result (λ error. of_commit error ≡ true) }
-    {
-        let mut wakes = Wakes::new();
-        let answer = self.monitor(rt).inside().commit(key, &mut wakes);
-        self.wake(rt, &wakes);
-        answer
-    }
-
-    /// `Monitor::roll_back`, and wakes the processes whose waits it ended.
-    pub(crate) fn roll_back<R: Wait>(&self, rt: &R, key: Key) {
-        let mut wakes = Wakes::new();
-        self.monitor(rt).inside().roll_back(key, &mut wakes);
-        self.wake(rt, &wakes);
-    }
-
-    /// Returns what was counted since the opening, as `LockManager::totals`. Constant time.
-    pub fn totals<R: Wait>(&self, rt: &R) -> Totals {
-        self.monitor(rt).inside().totals()
-    }
-
-    /// Returns how many events of the table were counted since the opening, as `LockManager::events`. Constant time.
-    pub fn events<R: Wait>(&self, rt: &R) -> u64 {
-        self.monitor(rt).inside().events()
+    /// The process of a worker's transaction.
+    pub(crate) fn process_of<R: Wait + Clock>(&self, rt: &R, at: u32) -> Option<u32> {
+        let mut pass = self.hall.pass();
+        self.hall.take_by_clock(rt, &mut pass);
+        let process = pass.slot_mut(self.hall.steps(), 0).process_of(at);
+        self.hall.put::<Brand, _>(&mut pass, &());
+        process
     }
 
     /// Wakes these, and then those for which there was no room among them. The lock is free.
-    fn wake<R: Wait>(&self, rt: &R, wakes: &Wakes) {
+    pub(crate) fn wake<R: Wait + Clock>(&self, rt: &R, wakes: &Wakes) {
         self.parkers.wake(wakes);
         if wakes.is_full() {
             self.wake_rest(rt);
         }
     }
 
+    /// Takes some of those that are to be woken.
+    fn take_pending<R: Wait + Clock>(&self, rt: &R) -> Wakes {
+        let mut pass = self.hall.pass();
+        self.hall.take_by_clock(rt, &mut pass);
+        let wakes = pass.slot_mut(self.hall.steps(), 0).take_pending();
+        self.hall.put::<Brand, _>(&mut pass, &());
+        wakes
+    }
+
     /// Wakes the processes whose wake-up is still pending, some at a time, until none is left.
     #[inline(never)]
-    fn wake_rest<R: Wait>(&self, rt: &R) {
+    fn wake_rest<R: Wait + Clock>(&self, rt: &R) {
         for _ in rt.forever() {
-            let wakes = self.monitor(rt).inside().take_pending();
+            let wakes = self.take_pending(rt);
             self.parkers.wake(&wakes);
             if !wakes.is_full() {
                 return;
@@ -199,4 +162,35 @@ impl Locks {
         }
         unreachable!()
     }
+}
+
+/// Locks over a desk that was just opened.
+fn open_over(alloc: Global, desk: Desk, config: LocksConfig) -> Result<Locks, OpenError>
+    ensures { IfErr result (λ error. error ≡ OpenError.Memory) }
+{
+    let parkers = Parkers::open(alloc, config.manager.transactions)?;
+    let hall = open_hall(alloc, desk, config)?;
+    match TiedMutex::new(alloc, hall) {
+        Ok(hall) => Ok(Locks { parkers, hall }),
+        Err(_) => Err(OpenError::Memory),
+    }
+}
+
+/// What lies behind the lock, with a worker for each transaction.
+fn open_hall(alloc: Global, mut desk: Desk, config: LocksConfig) -> Result<Hall, AllocError> {
+    let room = Room::open(alloc, config.manager.names)?;
+    let pending = PendingWakes::open(alloc, config.manager.transactions)?;
+    let mut idle = Vec::with_capacity(alloc, config.manager.transactions as usize)?;
+    for _ in 0..config.manager.transactions {
+        let Ok(worker) = desk.add_worker(alloc) else {
+            return Err(AllocError);
+        };
+        idle.push_reserved(worker);
+    }
+    Ok(Hall {
+        desk,
+        room,
+        pending,
+        idle,
+    })
 }

@@ -6,7 +6,7 @@ use std::alloc::{AllocError, Global};
 use std::sync::Wait;
 use std::sync::atomic::AtomicBool;
 use std::sync::atomic::Ordering::SeqCst;
-use std::thread::{self, Parker};
+use std::thread::Parker;
 use std::time::{Clock, Duration};
 
 /// How often a thread yields its processor before it sleeps. Often it is woken in that time, and goes on at once.
@@ -27,20 +27,9 @@ impl FlaggedParker {
         }
     }
 
-    /// Yields until the thread is woken, `YIELDS` times at most, and then sleeps until it is woken. A wake since the last sleep counts too.
-    pub fn yield_and_park<R: Wait>(&self, rt: &R) {
-        self.is_woken.store(false, SeqCst);
-        for _ in 0..YIELDS {
-            if self.is_woken.load(SeqCst) {
-                break;
-            }
-            thread::yield_now();
-        }
-        self.parker.park(rt);
-    }
-
-    /// `yield_and_park` by a thread that reads a clock: it yields for no longer than it may stay awake.
-    pub fn yield_by_clock_and_park<R: Wait + Clock>(&self, rt: &R) {
+    /// Yields until the thread is woken, `YIELDS` times at most and for no longer than it may stay awake, and then sleeps until it is woken. A wake
+    /// since the last sleep counts too.
+    pub fn yield_and_park<R: Wait + Clock>(&self, rt: &R) {
         self.is_woken.store(false, SeqCst);
         let awake = Awake::new(rt);
         for _ in 0..YIELDS {
@@ -48,11 +37,6 @@ impl FlaggedParker {
                 break;
             }
         }
-        self.parker.park(rt);
-    }
-
-    /// Sleeps until the thread is woken. A wake since the last sleep counts too.
-    pub fn park<R: Wait>(&self, rt: &R) {
         self.parker.park(rt);
     }
 

@@ -1,271 +1,296 @@
 //! A transaction.
-ghost use Rattle.std.specs.Prelude.{◌≡◌, ◌⊎◌, true, IfErr, IfOk, IfSome};
-ghost use Rattle.mm_locks.specs.Errors.{of_lock, of_try, of_unlock, of_commit};
-ghost use Rattle.mm_locks.specs.Granted.{IsFor, IsForAll, OwnsFor};
+ghost use Rattle.std.specs.Prelude.{◌≡◌, false, true, IfErr, IfNone, IfOk, IfSome};
+ghost use Rattle.mm_thin.specs.Calls.{HasTaken};
+ghost use Rattle.mm_locks.specs.Errors.{of_commit, of_lock, of_try, of_unlock};
+ghost use Rattle.mm_locks.specs.Calls.{found_of};
+ghost use Rattle.mm_locks.specs.Granted.{IsFor, OwnsFor};
+ghost use Rattle.mm_locks.specs.Told.{BeginsSo, CommitsSo, HasTakenAlone, IsKnownIfTold, IsSame, LocksSo, LooksUntil, Tells, TellsNothing, TriesSo, TriesUntil, UnlocksSo, owning, owning_or_not};
 
 use crate::error::LockError;
-use crate::locks::Locks;
-use crate::monitor::{Granted, GrantedUpTo, Outcome};
-use crate::parkers::FlaggedParker;
-use crate::patience::Patience;
-use mm_manager::Key;
-use mm_mutex::stay_away;
+use crate::hall::Outcome;
+use crate::history::Event;
+use crate::session::Session;
+use crate::tokens::{Granted, take_thinly};
+use mm_mutex::{Awake, stay_away};
+use mm_thin::{GiveUp, Take};
 use std::sync::Wait;
-use std::time::{Clock, Duration};
+use std::time::Clock;
 
 /// How often a thread yields its processor when it has rolled back a transaction that was told `Deadlock`. One that began again at once would
 /// often be told the same, before the others are done.
 const DEADLOCK_YIELDS: u32 = 256;
 
+/// How often a thread looks again whether a name is free before it asks the manager. Before each further time it yields twice as often.
+const LOOKS: u32 = 3;
+
 /// A transaction. If it is dropped it is rolled back: all that it owns is handed over, and the processes that were granted something are
 /// woken. If it was told `Deadlock` and has given nothing back since, the drop then yields the processor for a while, so that the others
 /// come to their ends before the caller begins again.
-///
-/// Between its calls it does not wait. One thread at a time has it, and may hand it to another one.
-pub struct Transaction<'m, R: Wait> {
-    rt: &'m R,
-    locks: &'m Locks,
-    parker: &'m FlaggedParker,
-    key: Key,
+pub struct Transaction<'s, 'r, 'm, R: Wait + Clock> {
+    pub(crate) session: &'s mut Session<'r, 'm, R>,
+    /// Whether the manager may know of it.
+    pub(crate) is_known: bool,
     /// Whether it was told `Deadlock` and has given nothing back since.
     is_in_deadlock: bool,
 }
 
-impl<'m, R: Wait> Drop for Transaction<'m, R> {
+impl<'s, 'r, 'm, R: Wait + Clock> Drop for Transaction<'s, 'r, 'm, R> {
     fn drop(self) {
         let Self {
-            rt,
-            locks,
-            parker: _,
-            key,
+            session,
+            is_known,
             is_in_deadlock,
         } = self;
-        locks.roll_back(rt, key);
-        if is_in_deadlock {
-            stay_away(DEADLOCK_YIELDS);
-        }
+        roll_back(session, is_known, is_in_deadlock);
     }
 }
 
-impl<'m, R: Wait> Transaction<'m, R> {
-    pub(crate) fn new(
-        rt: &'m R,
-        locks: &'m Locks,
-        parker: &'m FlaggedParker,
-        key: Key,
-    ) -> Transaction<'m, R>
-        ensures { result.key ≡ key }
+impl<'s, 'r, 'm, R: Wait + Clock> Transaction<'s, 'r, 'm, R> {
+    pub(crate) fn new(session: &'s mut Session<'r, 'm, R>) -> Transaction<'s, 'r, 'm, R>
+        ensures session { result.session.now ≡ session.entry.now }
+        ensures known { result.is_known ≡ false }
     {
         Transaction {
-            rt,
-            locks,
-            parker,
-            key,
+            session,
+            is_known: false,
             is_in_deadlock: false,
         }
     }
 
-    pub(crate) fn key(&self) -> Key {
-        self.key
-    }
-
+    /// Returns whether it was told `Deadlock` and has given nothing back since.
     pub(crate) fn is_in_deadlock(&self) -> bool {
         self.is_in_deadlock
     }
 
-    /// Notes why a request was refused, and returns it.
-    pub(crate) fn note(&mut self, error: LockError) -> LockError
-        ensures error { result ≡ error }
-        ensures key { self.new.key ≡ self.old.key }
-    {
-        if let LockError::Deadlock = error {
-            self.is_in_deadlock = true;
-        }
-        error
-    }
-
-    /// Asks for the name. The lock is free when this returns.
-    #[inline(never)]
-    fn request<'n>(&self, name: &'n [u8]) -> Result<Outcome<'n>, LockError>
-        ensures granted { IfOk result (OwnsFor self.now.key name.now) }
-        ensures refused { IfErr result (λ error. of_lock error ≡ true) }
-    {
-        self.locks.monitor(self.rt).inside().lock(self.key, name)
-    }
-
-    /// Returns what a request for the name has come to. The lock is free when this returns.
-    fn outcome<'n>(&self, name: &'n [u8]) -> Result<Outcome<'n>, LockError>
-        ensures granted { IfOk result (OwnsFor self.now.key name.now) }
-        ensures refused { IfErr result (λ error. of_lock error ≡ true) }
-    {
-        self.locks.monitor(self.rt).inside().outcome(self.key, name)
+    /// Rolls the transaction back. It can be begun anew.
+    pub(crate) fn roll_back(&mut self) {
+        roll_back(self.session, self.is_known, self.is_in_deadlock);
+        self.is_known = false;
+        self.is_in_deadlock = false;
     }
 
     /// Locks the name: returns when the transaction owns it, at once if nobody else does, and else it sleeps until it was granted.
     ///
-    /// `Deadlock` comes at once too, if the wait would close a cycle of waits; one that sleeps is never told of it. The transaction does not
-    /// wait then, and goes on with what it owns. Give back what others wait for before you ask again: `unlock` what was locked since a
-    /// savepoint, or drop the transaction. Until then the answer is the same, and the others on the cycle cannot go on. A name that it owns
-    /// already is `Ok`, and is owned once. Refused as `Deadlock`, `NameEmpty`, `NameTooLong`, `TooManyNames`, `NamesFull`, `CountsFull` or
-    /// `LabelsFull`. A refusal changes nothing. `LockManager::lock` says what the call costs without the sleep; a call that slept looks the name
-    /// up once more.
+    /// If nobody else owns a name of its bucket, that is one compare-and-swap; a name after the sixteenth, and one of more than 63 bytes, is the
+    /// manager's. If another one owns it the thread looks some times more, and then waits in the manager. `Deadlock` comes at once, if the wait
+    /// would close a cycle of waits; one that sleeps is never told of it. The transaction does not wait then, and goes on with what it owns. Give
+    /// back what others wait for before you ask again: `unlock` what was locked since a savepoint, or drop the transaction. Until then the answer
+    /// is the same, and the others on the cycle cannot go on. A name that it owns already is `Ok`, and is owned once. Refused as `Deadlock`,
+    /// `NameEmpty`, `NameTooLong`, `TooManyNames`, `NamesFull`, `CountsFull` or `LabelsFull`.
     #[inline]
     pub fn lock<'n>(&mut self, name: &'n [u8]) -> Result<Granted<'n>, LockError>
-        ensures granted { IfOk result (IsFor self.old.key name.now) }
+        ensures granted { IfOk result (IsFor self.old.session.now.worker.at name.now) }
         ensures refused { IfErr result (λ error. of_lock error ≡ true) }
+        ensures same { IsSame self.old.session.now self.new.session.now }
+        ensures told { LocksSo self.old.session.now name.now result self.new.session.now }
+        ensures known { IsKnownIfTold self.old.is_known self.old.session.now self.new.is_known self.new.session.now }
     {
-        match self.request(name) {
-            Ok(Outcome::Owns(granted)) => Ok(granted),
-            Ok(Outcome::Waits) => self.sleep(name),
-            Err(error) => Err(self.note(error)),
-        }
-    }
-
-    /// Sleeps until the transaction owns what it waits for.
-    #[inline(never)]
-    fn sleep<'n>(&self, name: &'n [u8]) -> Result<Granted<'n>, LockError>
-        ensures granted { IfOk result (IsFor self.now.key name.now) }
-        ensures refused { IfErr result (λ error. of_lock error ≡ true) }
-    {
-        for _ in self.rt.forever() {
-            self.parker.yield_and_park(self.rt);
-            if let Outcome::Owns(granted) = self.outcome(name)? {
-                return Ok(granted);
-            }
-        }
-        unreachable!()
-    }
-
-    /// Locks these names in the order given, as `lock` does one after the other, but takes the manager's lock only once, and once more after
-    /// each sleep.
-    ///
-    /// If one of them is refused, those before it stay locked, and those after it were not asked for. Refused as `lock` is. It costs what
-    /// the locks cost, all that are granted without a sleep between them under one taking of the manager's lock.
-    pub fn lock_all<'n>(&mut self, names: &'n [&'n [u8]]) -> Result<GrantedUpTo<'n>, LockError>
-        ensures granted { IfOk result (IsForAll self.old.key names.now) }
-        ensures refused { IfErr result (λ error. of_lock error ≡ true) }
-    {
-        let none = GrantedUpTo::none(self.key, names);
-        let answer = self.locks.monitor(self.rt).inside().lock_each(none);
-        match answer {
-            Ok(so_far) => self.go_on(so_far),
-            Err(error) => Err(self.note(error)),
-        }
-    }
-
-    /// Returns at once if all names were granted; else the transaction waits for the first one that is left.
-    #[inline]
-    pub(crate) fn go_on<'n>(
-        &mut self,
-        so_far: GrantedUpTo<'n>,
-    ) -> Result<GrantedUpTo<'n>, LockError>
-        ensures granted { IfOk result (IsForAll so_far.entry.key so_far.entry.names.now) }
-        ensures refused { IfErr result (λ error. of_lock error ≡ true) }
-        ensures key { self.new.key ≡ self.old.key }
-    {
-        if so_far.is_all() {
-            return Ok(so_far);
-        }
-        match self.sleep_for_each(so_far) {
+        let session = &mut *self.session;
+        match take_thinly(&mut session.worker, name) {
             Ok(granted) => Ok(granted),
-            Err(error) => Err(self.note(error)),
+            Err(why) => self.lock_slowly(name, why),
         }
     }
 
-    /// Sleeps until the transaction owns the first name that is left, for which it waits, and goes on with those after it.
+    /// Looks some times more whether the name is free, if another one has its bucket, and then asks the manager for it.
     #[inline(never)]
-    fn sleep_for_each<'n>(&self, so_far: GrantedUpTo<'n>) -> Result<GrantedUpTo<'n>, LockError>
-        ensures granted { IfOk result (IsForAll so_far.entry.key so_far.entry.names.now) }
+    fn lock_slowly<'n>(&mut self, name: &'n [u8], why: Take) -> Result<Granted<'n>, LockError>
+        ensures granted { IfOk result (IsFor self.old.session.now.worker.at name.now) }
         ensures refused { IfErr result (λ error. of_lock error ≡ true) }
+        ensures same { IsSame self.old.session.now self.new.session.now }
+        ensures told { LocksSo self.old.session.now name.now result self.new.session.now }
+        ensures known { IsKnownIfTold self.old.is_known self.old.session.now self.new.is_known self.new.session.now }
     {
-        let mut granted = so_far;
-        for _ in self.rt.forever() {
-            self.parker.yield_and_park(self.rt);
-            granted = self.locks.monitor(self.rt).inside().go_on(granted)?;
-            if granted.is_all() {
-                return Ok(granted);
+        match self.begin_wait(name, why)? {
+            Some(granted) => Ok(granted),
+            None => sleep(self.session, name),
+        }
+    }
+
+    /// Locks the name, or waits for it in the manager from now on, and then returns `None`.
+    pub(crate) fn begin_wait<'n>(
+        &mut self,
+        name: &'n [u8],
+        why: Take,
+    ) -> Result<Option<Granted<'n>>, LockError>
+        ensures granted { IfOk result (λ found. IfSome found (IsFor self.old.session.now.worker.at name.now)) }
+        ensures refused { IfErr result (λ error. of_lock error ≡ true) }
+        ensures same { IsSame self.old.session.now self.new.session.now }
+        ensures told { BeginsSo self.old.session.now name.now result self.new.session.now }
+        ensures known { IsKnownIfTold self.old.is_known self.old.session.now self.new.is_known self.new.session.now }
+        ensures asked { IfOk result (λ found. IfNone found (self.new.is_known ≡ true)) }
+    {
+        if let Some(granted) = self.look_again(name, why) {
+            return Ok(Some(granted));
+        }
+        for _ in self.session.rt.forever() {
+            match self.request(name)? {
+                Outcome::Owns(granted) => return Ok(Some(granted)),
+                Outcome::Waits => return Ok(None),
+                Outcome::Again => {}
             }
         }
         unreachable!()
+    }
+
+    /// Takes the name if another one has its bucket, and that becomes free soon.
+    fn look_again<'n>(&mut self, name: &'n [u8], why: Take) -> Option<Granted<'n>>
+        ensures granted { IfSome result (IsFor self.old.session.now.worker.at name.now) }
+        ensures same { IsSame self.old.session.now self.new.session.now }
+        ensures told { TellsNothing self.old.session.now self.new.session.now }
+        ensures known { self.new.is_known ≡ self.old.is_known }
+        ensures taken { IfSome result (λ granted. HasTaken self.new.session.now.worker.records name.now) }
+    {
+        let Take::Busy = why else {
+            return None;
+        };
+        let session = &mut *self.session;
+        let awake = Awake::new(session.rt);
+        let mut yields = 1u32;
+        for _ in 0..LOOKS {
+            if !awake.stay_away(session.rt, yields) {
+                return None;
+            }
+            match take_thinly(&mut session.worker, name) {
+                Ok(granted) => return Some(granted),
+                Err(Take::Busy) => {}
+                Err(_) => return None,
+            }
+            yields = yields.saturating_mul(2);
+        }
+        None
+    }
+
+    /// Asks the manager for the name.
+    fn request<'n>(&mut self, name: &'n [u8]) -> Result<Outcome<'n>, LockError>
+        ensures granted { IfOk result (OwnsFor self.old.session.now.worker.at name.now) }
+        ensures refused { IfErr result (λ error. of_lock error ≡ true) }
+        ensures same { IsSame self.old.session.now self.new.session.now }
+        ensures told { Tells self.old.session.now (Event.Asked self.old.session.now.worker.at name.now (found_of result)) self.new.session.now }
+        ensures known { self.new.is_known ≡ true }
+    {
+        self.is_known = true;
+        let answer = self.session.ask(name);
+        if is_deadlock(&answer) {
+            self.is_in_deadlock = true;
+        }
+        answer
     }
 
     /// Locks the name if nobody else owns it, and never sleeps for it. Returns `None` if another transaction owns it.
     ///
-    /// Refused as `NameEmpty`, `NameTooLong`, `TooManyNames`, `NamesFull` or `CountsFull`. `O(length)`.
+    /// Refused as `NameEmpty`, `NameTooLong`, `TooManyNames`, `NamesFull` or `CountsFull`, as `LockManager::try_lock` is.
     pub fn try_lock<'n>(&mut self, name: &'n [u8]) -> Result<Option<Granted<'n>>, LockError>
-        ensures granted { IfOk result (λ tried. IfSome tried (IsFor self.old.key name.now)) }
+        ensures granted { IfOk result (λ tried. IfSome tried (IsFor self.old.session.now.worker.at name.now)) }
         ensures refused { IfErr result (λ error. of_try error ≡ true) }
+        ensures same { IsSame self.old.session.now self.new.session.now }
+        ensures told { TriesSo self.old.session.now name.now result self.new.session.now }
+        ensures known { IsKnownIfTold self.old.is_known self.old.session.now self.new.is_known self.new.session.now }
     {
-        self.locks
-            .monitor(self.rt)
-            .inside()
-            .try_lock(self.key, name)
+        let session = &mut *self.session;
+        match take_thinly(&mut session.worker, name) {
+            Ok(granted) => Ok(Some(granted)),
+            Err(_) => {
+                self.is_known = true;
+                try_slowly(self.session, name)
+            }
+        }
     }
 
     /// Gives the name back: its longest waiter owns it from now on, and is woken; with no waiter it is free.
     ///
-    /// Refused as `NameEmpty`, `NameTooLong` or `NotOwner`. It costs what `LockManager::unlock` costs.
+    /// Refused as `NameEmpty`, `NameTooLong` or `NotOwner`, as `LockManager::unlock` is.
     pub fn unlock(&mut self, name: &[u8]) -> Result<(), LockError>
         ensures refused { IfErr result (λ error. of_unlock error ≡ true) }
+        ensures same { IsSame self.old.session.now self.new.session.now }
+        ensures told { UnlocksSo self.old.session.now name.now result self.new.session.now }
+        ensures known { IsKnownIfTold self.old.is_known self.old.session.now self.new.is_known self.new.session.now }
     {
-        self.locks.unlock(self.rt, self.key, name)?;
+        let session = &mut *self.session;
+        if let GiveUp::Done = session.worker.give_back_name(name) {
+            self.is_in_deadlock = false;
+            return Ok(());
+        }
+        self.is_known = true;
+        session.unlock(name)?;
         self.is_in_deadlock = false;
         Ok(())
     }
 
     /// Ends the transaction: all that it owns is handed over, and the processes that were granted something are woken.
-    ///
-    /// It costs what `LockManager::commit` costs.
     pub fn commit(self) -> Result<(), LockError>
         ensures refused { IfErr result (λ error. of_commit error ≡ true) }
+        ensures same { IsSame self.entry.session.now self.exit.0.now }
+        ensures told { CommitsSo self.entry.is_known self.entry.session.now result self.exit.0.now }
     {
         let Self {
-            rt,
-            locks,
-            parker: _,
-            key,
+            session,
+            is_known,
             is_in_deadlock: _,
         } = self;
-        locks.commit(rt, key)
+        session.commit(is_known)
     }
 }
 
-impl<'m, R: Wait + Clock> Transaction<'m, R> {
-    /// `lock` that gives up: `TimedOut` if the name was not granted in this time. The transaction then goes on, and keeps what it owns.
-    ///
-    /// It returns after the time and a scheduling delay at most, and never gives up before the time. A clock that cannot be read counts as a
-    /// time that is up. Else refused as `lock` is.
-    pub fn lock_for<'n>(
-        &mut self,
-        name: &'n [u8],
-        limit: Duration,
-    ) -> Result<Granted<'n>, LockError>
-        ensures granted { IfOk result (IsFor self.old.key name.now) }
-        ensures refused { IfErr result (λ error. (error ≡ LockError.TimedOut) ⊎ (of_lock error ≡ true)) }
-    {
-        match self.request(name) {
-            Ok(Outcome::Owns(granted)) => Ok(granted),
-            Ok(Outcome::Waits) => self.sleep_for(name, limit),
-            Err(error) => Err(self.note(error)),
-        }
+/// Rolls the session's transaction back. If it was told `Deadlock`, and has given nothing back since, the processor is then yielded for a while.
+fn roll_back<R: Wait + Clock>(
+    session: &mut Session<'_, '_, R>,
+    is_known: bool,
+    is_in_deadlock: bool,
+) {
+    session.roll_back(is_known);
+    if is_in_deadlock {
+        stay_away(DEADLOCK_YIELDS);
     }
+}
 
-    /// Sleeps until the transaction owns what it waits for, or the time is up and the request taken back.
-    #[inline(never)]
-    fn sleep_for<'n>(&self, name: &'n [u8], limit: Duration) -> Result<Granted<'n>, LockError>
-        ensures granted { IfOk result (IsFor self.now.key name.now) }
-        ensures refused { IfErr result (λ error. (error ≡ LockError.TimedOut) ⊎ (of_lock error ≡ true)) }
-    {
-        let patience = Patience::new(self.rt, limit);
-        for _ in self.rt.forever() {
-            let Some(time) = patience.left(self.rt) else {
-                return self.locks.take_back(self.rt, self.key, name);
-            };
-            self.parker.park_timeout(self.rt, time);
-            if let Outcome::Owns(granted) = self.outcome(name)? {
-                return Ok(granted);
-            }
+/// Whether an answer is that the wait would close a cycle of waits.
+fn is_deadlock(answer: &Result<Outcome<'_>, LockError>) -> bool {
+    matches!(answer, Err(LockError::Deadlock))
+}
+
+/// Asks the manager for the name, and never waits.
+#[inline(never)]
+fn try_slowly<'n, R: Wait + Clock>(
+    session: &mut Session<'_, '_, R>,
+    name: &'n [u8],
+) -> Result<Option<Granted<'n>>, LockError>
+    ensures granted { IfOk result (λ tried. IfSome tried (IsFor session.old.worker.at name.now)) }
+    ensures refused { IfErr result (λ error. of_try error ≡ true) }
+    ensures same { IsSame session.old session.new }
+    ensures told { TriesUntil session.old name.now (owning_or_not result) session.new }
+{
+    for _ in session.rt.forever() {
+        match session.try_lock(name)? {
+            Outcome::Owns(granted) => return Ok(Some(granted)),
+            Outcome::Waits => return Ok(None),
+            Outcome::Again => {}
         }
-        unreachable!()
     }
+    unreachable!()
+}
+
+/// Sleeps until the session's transaction owns what it waits for.
+#[inline(never)]
+fn sleep<'n, R: Wait + Clock>(
+    session: &mut Session<'_, '_, R>,
+    name: &'n [u8],
+) -> Result<Granted<'n>, LockError>
+    ensures granted { IfOk result (IsFor session.old.worker.at name.now) }
+    ensures refused { IfErr result (λ error. of_lock error ≡ true) }
+    ensures same { IsSame session.old session.new }
+    ensures told { LooksUntil session.old name.now (Event.Looked session.old.worker.at name.now (owning result)) session.new }
+{
+    let parker = session.parker();
+    for _ in session.rt.forever() {
+        match parker {
+            Some(parker) => parker.yield_and_park(session.rt),
+            None => stay_away(1),
+        }
+        match session.outcome(name)? {
+            Outcome::Owns(granted) => return Ok(granted),
+            Outcome::Waits | Outcome::Again => {}
+        }
+    }
+    unreachable!()
 }

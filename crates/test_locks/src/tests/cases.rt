@@ -1,133 +1,139 @@
-//! What threads do with locks. `on_locks` opens the locks, lends them to the threads, and drops them: so no test owns locks.
+//! Threads that do more than a script can say: each case with the numbers of its locks, and what comes of it.
 
-use crate::tests::helpers::same;
-use crate::tests::steps::{Row, take};
-use crate::tests::{again, patience, wakes};
-use mm_locks::{Locks, ManagerConfig};
-use patience::Hand;
-use std::alloc::Global;
-use std::process::Abort;
-use std::sync::{Barrier, Wait};
-use std::thread;
-use std::thread::Threads;
-use std::time::Clock;
+use crate::tests::again::PAUSED;
+use crate::tests::opened::{
+    Case, Counts, FEW_BUCKETS, MANY_BUCKETS, ONE_BUCKET, Work, on_each, on_locks,
+};
+use crate::tests::steps::End;
+use crate::tests::wakes::WAITERS;
 
-/// What threads do with locks.
-#[derive(Clone, Copy)]
-enum Work {
-    /// Each makes its steps.
-    Rows(&'static [Row]),
-    Outcomes,
-    /// One makes this many attempts, and gives up.
-    GiveUp(u32),
-    Pause,
-    Patience,
-    BehindDeadlock,
-    GoBack,
-    Wakes,
-}
-
-impl Work {
-    /// What the thread of this number does.
-    fn part<R: Wait + Clock + Abort>(
-        self,
-        rt: &R,
-        locks: &Locks,
-        gate: &Barrier,
-        hand: &Hand,
-        number: usize,
-    ) {
-        match self {
-            Work::Rows(rows) => take(rt, locks, gate, rows, number),
-            Work::Outcomes => again::outcomes(rt, locks, gate),
-            Work::GiveUp(attempts) => again::give_up(rt, locks, gate, number, attempts),
-            Work::Pause => again::pause(rt, locks, gate, number),
-            Work::Patience => patience::each_time_passes(rt, locks),
-            Work::BehindDeadlock => patience::behind_a_deadlock(rt, locks, gate, hand, number),
-            Work::GoBack => again::go_back(rt, locks, gate, number),
-            Work::Wakes => wakes::one_wakes_all(rt, locks, gate, number),
-        }
-    }
-}
-
-#[derive(Clone, Copy)]
-struct Case {
-    transactions: u32,
-    names: u32,
-    names_each: u32,
-    threads: usize,
-    work: Work,
-    /// How many are to have begun, been committed, been aborted, and been told of a deadlock when the threads have ended.
-    totals: [u64; 4],
-}
-
-/// Ends the test unless this many have begun, were committed, were aborted, and were told of a deadlock.
-fn totals_are<R: Wait + Abort>(rt: &R, locks: &Locks, expected: [u64; 4]) {
-    let totals = locks.totals(rt);
-    same(rt, totals.begun, expected[0]);
-    same(rt, totals.committed, expected[1]);
-    same(rt, totals.aborted, expected[2]);
-    same(rt, totals.deadlocks, expected[3]);
-}
-
-impl Case {
-    /// Lets the threads do the work at once, and looks at what came of it.
-    fn done<R: Threads + Wait + Clock + Abort + Sync>(&self, rt: &R, alloc: Global, locks: &Locks) {
-        let gate = &Barrier::new(self.threads);
-        let hand = &Hand::new();
-        let work = self.work;
-        let _ended = thread::map_indices(
-            rt,
-            alloc,
-            self.threads,
-            &|number| work.part(rt, locks, gate, hand, number),
-        )
-        .expect(rt, "memory");
-        totals_are(rt, locks, self.totals);
-    }
-}
-
-/// Opens locks for the case, lets its threads do the work, and looks at what came of it.
-fn on_locks<R: Threads + Wait + Clock + Abort + Sync>(rt: &R, alloc: Global, case: &Case) {
-    let config = ManagerConfig {
-        transactions: case.transactions,
-        names: case.names,
-        name_bytes: 8,
-        names_each: case.names_each,
-        seed: 11,
-    };
-    let locks = Locks::open(alloc, config).expect(rt, "memory");
-    case.done(rt, alloc, &locks);
-    drop(locks);
-}
-
-/// Two threads over two names.
-const TWO: Case = Case {
-    transactions: 2,
-    names: 2,
+/// One thread at names of which the manager can have all.
+const ONE: Case = Case {
+    transactions: 4,
+    names: 32,
     names_each: 0,
-    threads: 2,
-    work: Work::Patience,
-    totals: [0; 4],
+    threads: 1,
+    work: Work::EachName,
+    counts: None,
 };
 
-/// Lets this many threads make their steps. A transaction may own five of eight names.
-pub fn on_rows<R: Threads + Wait + Clock + Abort + Sync>(
-    rt: &R,
-    alloc: Global,
-    threads: usize,
-    rows: &'static [Row],
-    totals: [u64; 4],
-) {
+/// Two threads at such names.
+const TWO: Case = Case { threads: 2, ..ONE };
+
+#[test]
+fn each_name_is_known(rt: HostRuntime) {
+    on_each(&rt, rt.alloc(), &ONE);
+}
+
+#[test]
+fn many_names_and_a_long_one(rt: HostRuntime) {
     let case = Case {
-        transactions: 3,
-        names: 8,
-        names_each: 5,
-        threads,
-        work: Work::Rows(rows),
-        totals,
+        work: Work::ManyNames,
+        ..ONE
     };
-    on_locks(rt, alloc, &case);
+    on_each(&rt, rt.alloc(), &case);
+}
+
+#[test]
+fn one_name_by_two(rt: HostRuntime) {
+    let case = Case {
+        work: Work::OneNameByTwo,
+        ..ONE
+    };
+    on_each(&rt, rt.alloc(), &case);
+}
+
+#[test]
+fn sessions_are_full(rt: HostRuntime) {
+    let case = Case {
+        transactions: 2,
+        work: Work::Sessions,
+        ..ONE
+    };
+    on_each(&rt, rt.alloc(), &case);
+}
+
+/// One that owns as many names as one may is refused the others: with one bucket all are the manager's, and with many sixteen are locked by
+/// their words, and one in the manager.
+#[test]
+fn a_bulk_is_refused(rt: HostRuntime) {
+    for (buckets, most) in [(ONE_BUCKET, 1), (MANY_BUCKETS, 17)] {
+        let case = Case {
+            names_each: 1,
+            work: Work::Bulk(most),
+            ..ONE
+        };
+        on_locks(&rt, rt.alloc(), &case, buckets);
+    }
+}
+
+#[test]
+fn threads_that_cross(rt: HostRuntime) {
+    let case = Case {
+        work: Work::Cross,
+        ..TWO
+    };
+    on_each(&rt, rt.alloc(), &case);
+}
+
+/// One of the two is told of the deadlock, once, and the same again before it has given something back. Both commit.
+#[test]
+fn both_of_a_deadlock_commit(rt: HostRuntime) {
+    let case = Case {
+        work: Work::CrossOnce,
+        counts: Some(Counts {
+            committed: 2,
+            deadlocks: 2,
+            waits: 1,
+            ..Counts::NONE
+        }),
+        ..TWO
+    };
+    on_each(&rt, rt.alloc(), &case);
+}
+
+/// Two threads at a manager that has room for one name.
+const ONE_PLACE: Case = Case {
+    names: 1,
+    work: Work::OnePlace(1),
+    ..TWO
+};
+
+/// One name has the bucket.
+#[test]
+fn one_place_in_one_bucket(rt: HostRuntime) {
+    on_locks(&rt, rt.alloc(), &ONE_PLACE, ONE_BUCKET);
+}
+
+/// One transaction can lock sixteen names by their words, and one in the manager.
+#[test]
+fn one_place_in_many_buckets(rt: HostRuntime) {
+    let case = Case {
+        work: Work::OnePlace(17),
+        ..ONE_PLACE
+    };
+    on_locks(&rt, rt.alloc(), &case, MANY_BUCKETS);
+}
+
+/// A transaction with many names ends in portions: while it goes on, one of the names has been granted.
+const MANY_NAMES: Case = Case {
+    names: 1_024,
+    work: Work::Portions(End::Commit),
+    ..TWO
+};
+
+#[test]
+fn a_commit_hands_over_in_portions(rt: HostRuntime) {
+    on_locks(&rt, rt.alloc(), &MANY_NAMES, MANY_BUCKETS);
+}
+
+#[test]
+fn a_drop_hands_over_in_portions(rt: HostRuntime) {
+    let case = Case {
+        work: Work::Portions(End::Drop),
+        ..MANY_NAMES
+    };
+    on_locks(&rt, rt.alloc(), &case, MANY_BUCKETS);
 }
 
 /// The last thread owns twelve names, and commits once each has a waiter. Each of the thirteen has ended then.
@@ -136,47 +142,122 @@ fn a_commit_wakes_all(rt: HostRuntime) {
     let case = Case {
         transactions: 13,
         names: 12,
-        names_each: 0,
         threads: 13,
         work: Work::Wakes,
-        totals: [13, 13, 0, 0],
+        counts: Some(Counts {
+            committed: 13,
+            waits: WAITERS as u64,
+            ..Counts::NONE
+        }),
+        ..ONE
     };
-    on_locks(&rt, rt.alloc(), &case);
+    on_each(&rt, rt.alloc(), &case);
 }
 
-/// A value is returned once its transaction is committed; an error of the work is returned, and its transaction rolled back.
+/// A value is returned once its transaction is committed; an error of the work is returned, and its transaction rolled back. Four look whether
+/// a name is free then.
 #[test]
 fn returns_what_came(rt: HostRuntime) {
     let case = Case {
-        transactions: 1,
-        threads: 1,
+        transactions: 2,
+        names: 2,
         work: Work::Outcomes,
-        totals: [4, 2, 2, 0],
-        ..TWO
+        counts: Some(Counts {
+            committed: 2,
+            aborted: 2 + 4,
+            ..Counts::NONE
+        }),
+        ..ONE
     };
-    on_locks(&rt, rt.alloc(), &case);
+    on_each(&rt, rt.alloc(), &case);
 }
+
+/// Two transactions over two names, one of which is told of a deadlock.
+const CLOSE: Case = Case {
+    transactions: 2,
+    names: 2,
+    ..TWO
+};
 
 /// If each attempt meets a deadlock, the last one's error is returned. Each attempt was made, and rolled back.
 #[test]
 fn ends_after_so_many_attempts(rt: HostRuntime) {
     let case = Case {
         work: Work::GiveUp(3),
-        totals: [6, 3, 3, 3],
-        ..TWO
+        counts: Some(Counts {
+            committed: 3,
+            aborted: 3,
+            deadlocks: 3,
+            waits: 3,
+            ..Counts::NONE
+        }),
+        ..CLOSE
     };
-    on_locks(&rt, rt.alloc(), &case);
+    on_each(&rt, rt.alloc(), &case);
 }
 
-/// Between the attempts there are pauses.
+/// Between the attempts there are pauses. Each roll-back of an attempt yields the processor often, which takes long if others want it: so there
+/// is a test for each number of buckets.
+const PAUSES: Case = Case {
+    work: Work::Pause,
+    counts: Some(Counts {
+        committed: PAUSED as u64,
+        aborted: PAUSED as u64,
+        deadlocks: PAUSED as u64,
+        waits: PAUSED as u64,
+        ..Counts::NONE
+    }),
+    ..CLOSE
+};
+
 #[test]
-fn pauses_between_attempts(rt: HostRuntime) {
+fn pauses_in_one_bucket(rt: HostRuntime) {
+    on_locks(&rt, rt.alloc(), &PAUSES, ONE_BUCKET);
+}
+
+#[test]
+fn pauses_in_few_buckets(rt: HostRuntime) {
+    on_locks(&rt, rt.alloc(), &PAUSES, FEW_BUCKETS);
+}
+
+#[test]
+fn pauses_in_many_buckets(rt: HostRuntime) {
+    on_locks(&rt, rt.alloc(), &PAUSES, MANY_BUCKETS);
+}
+
+/// Work that goes back to a savepoint after a deadlock, and then succeeds, is committed.
+#[test]
+fn goes_back_to_a_savepoint(rt: HostRuntime) {
     let case = Case {
-        work: Work::Pause,
-        totals: [22, 11, 11, 11],
-        ..TWO
+        names: 3,
+        work: Work::GoBack,
+        counts: Some(Counts {
+            committed: 2,
+            deadlocks: 1,
+            waits: 1,
+            ..Counts::NONE
+        }),
+        ..CLOSE
     };
-    on_locks(&rt, rt.alloc(), &case);
+    on_each(&rt, rt.alloc(), &case);
+}
+
+/// Work that goes back to a savepoint after a deadlock, and then fails, is not done again.
+#[test]
+fn gives_in_after_a_savepoint(rt: HostRuntime) {
+    let case = Case {
+        names: 3,
+        work: Work::GiveIn,
+        counts: Some(Counts {
+            committed: 1,
+            aborted: 1,
+            deadlocks: 1,
+            waits: 1,
+            ..Counts::NONE
+        }),
+        ..CLOSE
+    };
+    on_each(&rt, rt.alloc(), &case);
 }
 
 /// A request for a name that stays owned is not taken back before its time.
@@ -184,10 +265,17 @@ fn pauses_between_attempts(rt: HostRuntime) {
 fn waits_its_time(rt: HostRuntime) {
     let case = Case {
         threads: 1,
-        totals: [8, 1, 7, 0],
-        ..TWO
+        work: Work::Patience,
+        counts: Some(Counts {
+            committed: 1,
+            aborted: 7,
+            waits: 7,
+            withdrawn: 7,
+            ..Counts::NONE
+        }),
+        ..CLOSE
     };
-    on_locks(&rt, rt.alloc(), &case);
+    on_each(&rt, rt.alloc(), &case);
 }
 
 /// A request behind one that was told of a deadlock is taken back once its time is up. The two of the deadlock commit, by a savepoint.
@@ -197,20 +285,14 @@ fn behind_a_deadlock(rt: HostRuntime) {
         transactions: 3,
         threads: 3,
         work: Work::BehindDeadlock,
-        totals: [3, 2, 1, 1],
-        ..TWO
+        counts: Some(Counts {
+            committed: 2,
+            aborted: 1,
+            deadlocks: 1,
+            waits: 2,
+            withdrawn: 1,
+        }),
+        ..CLOSE
     };
-    on_locks(&rt, rt.alloc(), &case);
-}
-
-/// Work that goes back to a savepoint after a deadlock, and then succeeds, is committed.
-#[test]
-fn goes_back_to_a_savepoint(rt: HostRuntime) {
-    let case = Case {
-        names: 3,
-        work: Work::GoBack,
-        totals: [2, 2, 0, 1],
-        ..TWO
-    };
-    on_locks(&rt, rt.alloc(), &case);
+    on_each(&rt, rt.alloc(), &case);
 }

@@ -1,12 +1,12 @@
 //! What threads do at locks, one step after the other, and what they are told.
 
-use crate::tests::helpers::{Answer, await_events, begin, commits, owns, same, tried};
-use mm_locks::{LockError, Locks, Transaction};
+use crate::tests::helpers::{Answer, are, await_waits, commits, is_done, same, session, tried};
+use mm_locks::{LockError, Locks, Session, Transaction};
 use std::process::Abort;
 use std::sync::{Barrier, Wait};
 use std::time::{Clock, Duration};
 
-type Name = &'static [u8];
+pub type Name = &'static [u8];
 
 type Names = &'static [Name];
 
@@ -22,15 +22,15 @@ pub enum Call {
 }
 
 impl Call {
-    fn made<R: Wait + Clock>(self, transaction: &mut Transaction<'_, R>) -> Answer {
+    fn made<R: Wait + Clock>(self, transaction: &mut Transaction<'_, '_, '_, R>) -> Answer {
         match self {
-            Call::Lock(name) => owns(transaction.lock(name)),
-            Call::LockAll(names) => owns(transaction.lock_all(names)),
+            Call::Lock(name) => is_done(transaction.lock(name)),
+            Call::LockAll(names) => is_done(transaction.lock_all(names)),
             Call::TryLock(name) => tried(transaction.try_lock(name)),
             Call::LockFor(name, time) => {
-                owns(transaction.lock_for(name, Duration::from_millis(time)))
+                is_done(transaction.lock_for(name, Duration::from_millis(time)))
             }
-            Call::Unlock(name) => owns(transaction.unlock(name)),
+            Call::Unlock(name) => is_done(transaction.unlock(name)),
         }
     }
 }
@@ -40,11 +40,11 @@ impl Call {
 pub enum Step {
     /// Waits until all threads do so.
     Meet,
-    /// Waits until this many events were counted.
+    /// Waits until so many requests were told to wait.
     Await(u64),
-    /// Another transaction tries these names, all of which are owned by others.
+    /// A transaction of another session tries these names, all of which are owned by others.
     AreBusy(Names),
-    /// Another transaction tries these names, and owns all of them.
+    /// A transaction of another session tries these names, and owns all of them.
     AreFree(Names),
     /// A transaction that is to begin with these names is refused so.
     BeginsNot(Names, LockError),
@@ -64,77 +64,149 @@ pub enum Step {
 #[derive(Clone, Copy)]
 pub struct Row(pub usize, pub Step);
 
-/// Ends the test unless another transaction has this answer to a try of each name.
-fn are<R: Wait + Abort>(rt: &R, locks: &Locks, names: &[&[u8]], answer: Answer) {
-    let mut probe = begin(rt, locks);
-    for name in names {
-        same(rt, tried(probe.try_lock(*name)), answer);
+/// The steps of one thread that are left.
+struct Part<'a> {
+    rows: &'a [Row],
+    thread: usize,
+    place: usize,
+}
+
+impl<'a> Drop for Part<'a> {
+    fn drop(self) {
+        let Self {
+            rows: _,
+            thread: _,
+            place: _,
+        } = self;
     }
 }
 
-/// Makes a call of the transaction. Ends the test if another answer comes.
-fn make_call<R: Wait + Clock + Abort>(
+impl<'a> Part<'a> {
+    /// Returns the next step of the thread.
+    fn next(&mut self) -> Option<Step> {
+        for _ in 0..self.rows.len() {
+            let Row(thread, step) = *self.rows.get(self.place)?;
+            self.place = self.place.saturating_add(1);
+            if thread == self.thread {
+                return Some(step);
+            }
+        }
+        None
+    }
+}
+
+/// Makes a step for which the thread needs no transaction.
+fn make_beside<R: Wait + Clock + Abort>(rt: &R, locks: &Locks, gate: &Barrier, step: Step) {
+    match step {
+        Step::Meet => {
+            gate.wait(rt);
+        }
+        Step::Await(waits) => await_waits(rt, locks, waits),
+        Step::AreBusy(names) => are(rt, locks, names, Ok(false)),
+        Step::AreFree(names) => are(rt, locks, names, Ok(true)),
+        _ => same(rt, "the step of a transaction", "a step beside it"),
+    }
+}
+
+/// How a transaction ends.
+#[derive(Clone, Copy)]
+pub enum End {
+    Commit,
+    Drop,
+}
+
+/// Makes the steps of a transaction, and returns how it is to end.
+fn make_calls<R: Wait + Clock + Abort>(
     rt: &R,
-    transaction: &mut Option<Transaction<'_, R>>,
-    call: Call,
-    answer: Answer,
+    locks: &Locks,
+    gate: &Barrier,
+    transaction: &mut Transaction<'_, '_, '_, R>,
+    part: &mut Part<'_>,
+) -> End {
+    for _ in rt.forever() {
+        match part.next() {
+            Some(Step::Call(call, answer)) => same(rt, call.made(transaction), answer),
+            Some(Step::Commit) => return End::Commit,
+            Some(Step::Drop) | None => return End::Drop,
+            Some(step) => make_beside(rt, locks, gate, step),
+        }
+    }
+    unreachable!()
+}
+
+/// Ends a transaction.
+pub fn finish<R: Wait + Clock>(rt: &impl Abort, transaction: Transaction<'_, '_, '_, R>, end: End) {
+    match end {
+        End::Commit => commits(rt, transaction),
+        End::Drop => drop(transaction),
+    }
+}
+
+/// Begins a transaction, and makes its steps.
+fn make_transaction<R: Wait + Clock + Abort>(
+    rt: &R,
+    locks: &Locks,
+    gate: &Barrier,
+    session: &mut Session<'_, '_, R>,
+    part: &mut Part<'_>,
 ) {
-    let transaction = transaction.as_mut().expect(rt, "a transaction");
-    same(rt, call.made(transaction), answer);
+    let mut transaction = session.begin();
+    let how = make_calls(rt, locks, gate, &mut transaction, part);
+    finish(rt, transaction, how);
 }
 
-/// Begins a transaction with these names.
-fn begin_with<'m, R: Wait + Abort>(
-    rt: &'m R,
-    locks: &'m Locks,
+/// Begins a transaction with these names, and makes its steps.
+fn make_transaction_with<R: Wait + Clock + Abort>(
+    rt: &R,
+    locks: &Locks,
+    gate: &Barrier,
+    session: &mut Session<'_, '_, R>,
     names: &[&[u8]],
-) -> Transaction<'m, R> {
-    let (transaction, _granted) = locks.begin_with(rt, names).expect(rt, "it owns the names");
-    transaction
+    part: &mut Part<'_>,
+) {
+    let (mut transaction, _granted) = session.begin_with(names).expect(rt, "it owns the names");
+    let how = make_calls(rt, locks, gate, &mut transaction, part);
+    finish(rt, transaction, how);
 }
 
-impl Step {
-    /// Makes the step.
-    fn made<'m, R: Wait + Clock + Abort>(
-        self,
-        rt: &'m R,
-        locks: &'m Locks,
-        gate: &Barrier,
-        transaction: &mut Option<Transaction<'m, R>>,
-    ) {
-        match self {
-            Step::Meet => {
-                gate.wait(rt);
+/// Makes the steps of the thread of this number by transactions of this session.
+pub fn take_in<R: Wait + Clock + Abort>(
+    rt: &R,
+    locks: &Locks,
+    gate: &Barrier,
+    session: &mut Session<'_, '_, R>,
+    rows: &[Row],
+    number: usize,
+) {
+    let mut part = Part {
+        rows,
+        thread: number,
+        place: 0,
+    };
+    for _ in rows {
+        match part.next() {
+            Some(Step::Begin) => make_transaction(rt, locks, gate, session, &mut part),
+            Some(Step::BeginWith(names)) => {
+                make_transaction_with(rt, locks, gate, session, names, &mut part);
             }
-            Step::Await(events) => await_events(rt, locks, events),
-            Step::AreBusy(names) => are(rt, locks, names, Ok(false)),
-            Step::AreFree(names) => are(rt, locks, names, Ok(true)),
-            Step::BeginsNot(names, error) => {
-                same(rt, owns(locks.begin_with(rt, names)), Err(error));
+            Some(Step::BeginsNot(names, error)) => {
+                same(rt, is_done(session.begin_with(names)), Err(error));
             }
-            Step::Begin => *transaction = Some(begin(rt, locks)),
-            Step::BeginWith(names) => *transaction = Some(begin_with(rt, locks, names)),
-            Step::Call(call, answer) => make_call(rt, transaction, call, answer),
-            Step::Commit => commits(rt, transaction.take().expect(rt, "a transaction")),
-            Step::Drop => drop(transaction.take()),
+            Some(step) => make_beside(rt, locks, gate, step),
+            None => {}
         }
     }
 }
 
 /// Makes the steps of the thread of this number.
-pub fn take<'m, R: Wait + Clock + Abort>(
-    rt: &'m R,
-    locks: &'m Locks,
+pub fn take<R: Wait + Clock + Abort>(
+    rt: &R,
+    locks: &Locks,
     gate: &Barrier,
     rows: &[Row],
     number: usize,
 ) {
-    let mut transaction = None;
-    for row in rows {
-        let Row(thread, step) = *row;
-        if thread == number {
-            step.made(rt, locks, gate, &mut transaction);
-        }
-    }
-    drop(transaction);
+    let mut session = session(rt, locks);
+    take_in(rt, locks, gate, &mut session, rows, number);
+    drop(session);
 }

@@ -1,4 +1,0 @@
-use Rattle.mm_locks.proofs.locks.Locks.run.Given as goal
-
-abbrev pub invariant-loop : goal.invariant-loop
-invariant-loop g l = goal.F-IsAlwaysCallable g l.work

@@ -1,0 +1,7 @@
+use Rattle.std.specs.Prelude.{[], ◌∷◌}
+use Rattle.mm_locks.specs.Calls.{found_of}
+use Rattle.mm_locks.specs.declared.history.Event.TheVariants as event
+use Rattle.mm_locks.proofs.session.Session.try_lock.Given as goal
+
+abbrev pub ghosts-put : goal.ghosts-put
+ghosts-put g a = record { events = event.Tried a.about.now.0 a.about.now.1.now (found_of a.about.now.2.now) ∷ [] }

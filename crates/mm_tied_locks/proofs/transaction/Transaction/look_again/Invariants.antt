@@ -1,5 +1,0 @@
-use Rattle.mm_tied_locks.specs.Told.{IsSame, TellsNothing}
-use Rattle.mm_tied_locks.proofs.transaction.Transaction.look_again.Given as goal
-
-abbrev pub invariant-loop : goal.invariant-loop
-invariant-loop g l = IsSame l.fn.self.session.now l.session × TellsNothing l.fn.self.session.now l.session
