@@ -70,33 +70,6 @@ impl<T> YieldingMutex<T> {
         let guard = self.inside.lock(rt);
         Guard { guard }
     }
-
-    /// `take` by a thread that reads a clock if the lock is taken: it yields for 50 microseconds at most before it sleeps.
-    #[inline(always)]
-    pub fn take_by_clock<R: Wait + Clock>(&self, rt: &R) -> Guard<'_, T> {
-        match self.inside.try_lock() {
-            Some(guard) => Guard { guard },
-            None => self.contended_by_clock(rt),
-        }
-    }
-
-    /// `contended`, by the clock.
-    #[inline(never)]
-    fn contended_by_clock<R: Wait + Clock>(&self, rt: &R) -> Guard<'_, T> {
-        let awake = Awake::new(rt);
-        let mut yields = FIRST_YIELDS;
-        for _ in 0..TURNS {
-            if !awake.stay_away(rt, yields) {
-                break;
-            }
-            if let Some(guard) = self.inside.try_lock() {
-                return Guard { guard };
-            }
-            yields = yields.saturating_mul(2);
-        }
-        let guard = self.inside.lock(rt);
-        Guard { guard }
-    }
 }
 
 /// A time in which a thread stays awake: 50 microseconds.
