@@ -207,7 +207,7 @@ module _ (books : BooksState) (o : OfficeState) (keys : List Key) (lent_to : Lis
 -- ---- what stays fat
 
 pub keeps_both : (a b c : DeskState) → KeepsFat a b → KeepsFat b c → KeepsFat a c
-keeps_both a b c first second = record { of = second.of ∙ first.of; keys = second.keys ∙ first.keys; fat = λ k among. second.fat k (first.fat k among); stay = λ h x owns. second.stay h x (first.stay h x owns) }
+keeps_both a b c first second = record { of = second.of ∙ first.of; keys = second.keys ∙ first.keys; fat = λ k among. second.fat k (first.fat k among); stay = λ h x owns. second.stay h x (first.stay h x owns); waits = λ h x. (λ w. (first.waits h x).0 ((second.waits h x).0 w), λ w. (second.waits h x).1 ((first.waits h x).1 w)) }
 
 -- ---- why a bucket was not made fat
 

@@ -7,7 +7,7 @@ use Rattle.std.proofs.lemmas.List.{same_lists}
 use Rattle.mm_arena.specs.declared.key.Key.{Key}
 use Rattle.mm_names.specs.Names.{NameTable, name_of, Interns}
 use Rattle.mm_rules.specs.TableState.{owner_of}
-use Rattle.mm_manager.specs.LockState.{LockState, Owns, IsUnowned, KeepOwned, IsLawful, untold}
+use Rattle.mm_manager.specs.LockState.{LockState, Owns, Waits, IsUnowned, KeepOwned, IsLawful, untold}
 use Rattle.mm_manager.specs.Calls.{AdoptsName, AdoptsNumber, Gets, TriesName, Tries, LocksName, Requests, Unlocks, UnlocksName, Ends, LosesName, Passes, Cancels, Begins, Commits, Aborts}
 use Rattle.mm_manager.specs.Reads.{HasStatus}
 use Rattle.mm_manager.specs.declared.reply.Status.{Status}
@@ -28,7 +28,7 @@ use Rattle.mm_manager.specs.declared.reply.TryLock.TheVariants as tried
 use Rattle.mm_thin.specs.declared.spread.Spread.{Spread}
 use Rattle.mm_thin.specs.Spread.{bucket_by}
 use Rattle.mm_desk.specs.Books.{in_bucket, names_in, AreCounted}
-use Rattle.mm_desk.specs.Calls.{GrowsBy, NamesFade, OwnersStay, OthersStay, HasNoNames, IsOver}
+use Rattle.mm_desk.specs.Calls.{GrowsBy, NamesFade, OwnersStay, OthersStay, WaitsStay, HasNoNames, IsOver}
 use Rattle.mm_desk.proofs.Counts.{count_more, count_less, counted_name, few}
 
 module _ (m : LockState) (lawful : IsLawful m) where
@@ -137,6 +137,7 @@ pub record IsBooked (old : LockState) (name : List ℕ) (answer : Result TryLock
   pub same : (IsTryGranted answer → ⊥) → new.names ≡ old.names
   pub grows : GrowsBy old name new
   pub stay : OwnersStay old new
+  pub waits : WaitsStay old new
 
 granted_booked : (old : LockState) (k : Key) (name : List ℕ) (new : LockState) → Gets old k name new → (n : ℕ) → Interns old.names name n new.names → IsBooked old name (Ok tried.Granted) new
 granted_booked old k name new gets n interns = record {
@@ -144,7 +145,12 @@ granted_booked old k name new gets n interns = record {
   same = λ not_granted. absurd (not_granted refl);
   grows = λ m x is. grows_interned old.names name n new.names interns m x is;
   stay = λ h x owns. gets_stay old k name new gets h x owns;
+  waits = gets.waits;
 }
+
+-- only who was granted something is told of
+waits_told : (old new : LockState) → new ≡ untold old → WaitsStay old new
+waits_told old new same h x = subst (λ (m : LockState). Waits m h x ↔ Waits old h x) (sym same) (λ w. w, λ w. w)
 
 untold_booked : (old : LockState) (name : List ℕ) (answer : Result TryLock Refusal) (new : LockState) → (IsTryGranted answer → ⊥) → new ≡ untold old → IsBooked old name answer new
 untold_booked old name answer new not_granted same = record {
@@ -152,6 +158,7 @@ untold_booked old name answer new not_granted same = record {
   same = λ _. untold_names old new same;
   grows = λ n x is. grows_same old new name (untold_names old new same) n x is;
   stay = λ h x owns. stays_told old new same h x owns;
+  waits = waits_told old new same;
 }
 
 pub tried_booked : (old : LockState) (k : Key) (name : List ℕ) (answer : Result TryLock Refusal) (new : LockState) → TriesName old k name answer new

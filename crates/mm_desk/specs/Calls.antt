@@ -3,7 +3,7 @@ use Rattle.std.specs.Prelude.{◌≡◌, ◌≢◌, ◌⊎◌, ◌↔◌, ◌/�
 use Rattle.mm_arena.specs.declared.key.Key.{Key}
 use Rattle.mm_names.specs.Names.{name_of}
 use Rattle.mm_lists.specs.Members.{Among, NoRepeat}
-use Rattle.mm_manager.specs.LockState.{LockState, Owns}
+use Rattle.mm_manager.specs.LockState.{LockState, Owns, Waits as WaitsFor}
 use Rattle.mm_rules.specs.TableState.{is_live, owner_of}
 use Rattle.mm_manager.specs.Permit.{may_name}
 use Rattle.mm_manager.specs.Calls.{Aborts, AdoptsName, Begins, Commits, LocksName, TriesName, UnlocksName, Cancels}
@@ -44,6 +44,10 @@ OwnersStay old new = (h : Key) (x : List ℕ) → Owns old h x → Owns new h x
 abbrev pub OthersStay : LockState → Key → List ℕ → LockState → Type 0
 OthersStay old k name new = (h : Key) (x : List ℕ) → Owns old h x → ((h ≡ k) × (x ≡ name) → ⊥) → Owns new h x
 
+-- each waits for what it waited for, and for nothing else
+abbrev pub WaitsStay : LockState → LockState → Type 0
+WaitsStay old new = (h : Key) (x : List ℕ) → WaitsFor new h x ↔ WaitsFor old h x
+
 -- ---- a thin name is handed to the manager
 
 -- the name is of this bucket, and the transaction of this key owns it
@@ -55,12 +59,13 @@ abbrev pub IsOffered : BooksState → Option Key → ℕ → List ℕ → Refusa
 IsOffered old key bucket name refusal new =
     (refusal ≡ NoTransaction) ⊎ ((k : Key) × (key ≡ Some k) × (bucket ≡ bucket_by old.spread name) × AdoptsName old.manager k name (Err refusal) new.manager)
 
--- what is fat stays fat, and owners stay; nothing else that a caller sees changes but the manager
+-- what is fat stays fat, and owners and waits stay; nothing else that a caller sees changes but the manager
 pub record KeepsFat (old new : DeskState) : Type 0 where
   pub of : new.office.of ≡ old.office.of
   pub keys : new.keys ≡ old.keys
   pub fat : (b : ℕ) → Among b old.office.desk.fat → Among b new.office.desk.fat
   pub stay : OwnersStay old.manager new.manager
+  pub waits : WaitsStay old.manager new.manager
 
 -- what became of a bucket
 abbrev pub AdoptsBucket : ℕ → Adopted → DeskState → Type 0

@@ -1,7 +1,7 @@
 //! A thin name is handed to the manager.
 ghost use Rattle.std.specs.Prelude.{◌≡◌, ◌<◌, ◌/◌, IfErr, OnOk, OnErr, IsTrue, slice_get};
 ghost use Rattle.mm_lists.specs.Members.{Among};
-ghost use Rattle.mm_desk.specs.Calls.{GrowsBy, NamesFade, OwnersStay, IsTakenOver, KeepsFat, AdoptsBucket, RefusesBucket, IsOffered};
+ghost use Rattle.mm_desk.specs.Calls.{GrowsBy, NamesFade, OwnersStay, WaitsStay, IsTakenOver, KeepsFat, AdoptsBucket, RefusesBucket, IsOffered};
 
 use crate::books::Books;
 use crate::desk::Desk;
@@ -58,6 +58,7 @@ fn offer(books: &mut Books, key: Option<Key>, bucket: usize, name: &[u8]) -> Res
     ensures refused { IfErr result (λ refusal. IsOffered books.old key bucket name.now refusal books.new) }
     ensures grows { GrowsBy books.old.manager name.now books.new.manager }
     ensures stay { OwnersStay books.old.manager books.new.manager }
+    ensures waits { WaitsStay books.old.manager books.new.manager }
     ensures spread { books.new.spread ≡ books.old.spread }
 {
     if books.spread.of(name) != bucket {

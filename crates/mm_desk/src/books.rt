@@ -3,7 +3,7 @@ ghost use Rattle.std.specs.Prelude.{◌≡◌, ◌<◌, ◌≤◌, ◌↔◌, Ok
 ghost use Rattle.mm_manager.specs.LockState.{IsLawful};
 ghost use Rattle.mm_manager.specs.Calls.{Aborts, AdoptsName, Begins, Commits, LocksName, TriesName, UnlocksName, Cancels};
 ghost use Rattle.mm_desk.specs.Books.{names_in};
-ghost use Rattle.mm_desk.specs.Calls.{GrowsBy, NamesFade, OwnersStay, OthersStay, IsOver};
+ghost use Rattle.mm_desk.specs.Calls.{GrowsBy, NamesFade, OwnersStay, OthersStay, WaitsStay, IsOver};
 
 use crate::tally::{recount, uncount};
 use mm_manager::{Key, Lock, LockManager, Refusal, TryLock};
@@ -53,6 +53,7 @@ impl Books {
         ensures adopts { AdoptsName self.old.manager key name.now result self.new.manager }
         ensures grows { GrowsBy self.old.manager name.now self.new.manager }
         ensures stay { OwnersStay self.old.manager self.new.manager }
+        ensures waits { WaitsStay self.old.manager self.new.manager }
         ensures spread { self.new.spread ≡ self.old.spread }
     {
         self.manager.keeps_laws();

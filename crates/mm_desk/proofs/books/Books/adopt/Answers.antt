@@ -1,7 +1,7 @@
 use Rattle.std.proofs.Common.{◌+◌, set, sym, subst, arith}
 use Rattle.mm_names.specs.Names.{NameTable}
 use Rattle.mm_desk.specs.Books.{BooksState, AreCounted}
-use Rattle.mm_desk.specs.Calls.{GrowsBy, OwnersStay}
+use Rattle.mm_desk.specs.Calls.{GrowsBy, OwnersStay, WaitsStay}
 use Rattle.mm_desk.proofs.Counts.{count_is}
 use Rattle.mm_desk.proofs.Names.{adopted_booked, count_granted, small_count}
 use Rattle.mm_desk.proofs.books.Books.adopt.Goals as goal
@@ -39,3 +39,9 @@ returns-else-is_try_granted-clause-grows c = subst (λ (b : BooksState). GrowsBy
 
 pub returns-else-is_try_granted-clause-stay : goal.returns-else-is_try_granted-clause-stay
 returns-else-is_try_granted-clause-stay c = subst (λ (b : BooksState). OwnersStay b.manager c.adopt-answer.new.self) c.self.view_is (adopted_booked c.self.inside.manager c.args.key c.args.name.now c.adopt-answer.result c.adopt-answer.new.self c.adopt-answer.ensures.adopts c.adopt-answer.ensures.step).stay
+
+pub returns-then-is_try_granted-clause-waits : goal.returns-then-is_try_granted-clause-waits
+returns-then-is_try_granted-clause-waits c = subst (λ (b : BooksState). WaitsStay b.manager c.adopt-answer.new.self) c.self.view_is (adopted_booked c.self.inside.manager c.args.key c.args.name.now c.adopt-answer.result c.adopt-answer.new.self c.adopt-answer.ensures.adopts c.adopt-answer.ensures.step).waits
+
+pub returns-else-is_try_granted-clause-waits : goal.returns-else-is_try_granted-clause-waits
+returns-else-is_try_granted-clause-waits c = subst (λ (b : BooksState). WaitsStay b.manager c.adopt-answer.new.self) c.self.view_is (adopted_booked c.self.inside.manager c.args.key c.args.name.now c.adopt-answer.result c.adopt-answer.new.self c.adopt-answer.ensures.adopts c.adopt-answer.ensures.step).waits

@@ -1,11 +1,11 @@
-use Rattle.std.proofs.Common.{◌<◌, ℕ, List, refl, sym, ap, ◌∙◌, subst}
+use Rattle.std.proofs.Common.{rules, ◌<◌, ℕ, List, refl, sym, ap, ◌∙◌, subst}
 use Rattle.std.specs.Prelude.{Option, slice_get, ◌/◌}
 use Rattle.mm_arena.specs.declared.key.Key.{Key}
 use Rattle.mm_lists.specs.Members.{Among}
 use Rattle.mm_thin.specs.declared.worker.TheConstants.{RECORDS}
 use Rattle.mm_thin.specs.Parts.{OfficeState}
 use Rattle.mm_desk.specs.Desk.{DeskState}
-use Rattle.mm_desk.specs.Calls.{GrowsBy, IsOffered, IsTakenOver, FailsToAdopt, OwnersStay}
+use Rattle.mm_desk.specs.Calls.{GrowsBy, IsOffered, IsTakenOver, FailsToAdopt, OwnersStay, WaitsStay}
 use Rattle.mm_desk.proofs.Keeps.{desk_same, desk_free, desk_lent, desk_refused, still_fat, not_adopted}
 use Rattle.mm_desk.proofs.desk.Desk.adopt.Goals as goal
 
@@ -44,6 +44,7 @@ returns-in-Err-clause-keeps c =
           (still_fat c.self.inside.books c.self.inside.office c.self.inside.keys.items c.self.inside.lent_to.items c.self.invariant c.offer.new.books c.offer.ensures.spread c.thin_again.new.self of
           c.args.bucket c.in-WasThin.number c.in-WasThin.name c.offer.ensures.stay c.in-WasThin.ensures.gets.1 c.fatten.new.self.desk c.in-WasThin.ensures.gets.0 c.thin_again.result c.thin_again.ensures.thins);
       stay = subst (λ (s : DeskState). OwnersStay s.manager c.offer.new.books.manager) c.self.view_is c.offer.ensures.stay;
+      waits = subst (λ (s : DeskState). WaitsStay s.manager c.offer.new.books.manager) c.self.view_is c.offer.ensures.waits;
     }
 
 pub returns-in-Err-clause-refused : goal.returns-in-Err-clause-refused
@@ -52,3 +53,12 @@ returns-in-Err-clause-refused c =
     subst (λ (s : DeskState). FailsToAdopt s c.args.bucket c.in-Err.refusal new) c.self.view_is
     (not_adopted c.self.inside.books c.offer.new.books c.self.inside.office c.self.inside.keys.items (c.in-WasThin.number / RECORDS) c.args.bucket c.as_slice.result.now c.in-Err.refusal new c.self.invariant.spread refl
     (subst (λ (key : Option Key). IsOffered c.self.inside.books key c.args.bucket c.as_slice.result.now c.in-Err.refusal c.offer.new.books) c.key_of_record.ensures c.in-Err.ensures.refused))
+
+pub returns-in-Ok-clause-keeps : goal.returns-in-Ok-clause-keeps
+returns-in-Ok-clause-keeps c = record {
+  of = search rules;
+  keys = search rules;
+  fat = search rules;
+  stay = search rules;
+  waits = subst (λ (s : DeskState). WaitsStay s.manager c.offer.new.books.manager) c.self.view_is c.offer.ensures.waits;
+}
