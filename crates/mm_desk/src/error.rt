@@ -6,10 +6,10 @@ use thiserror::Error;
 #[derive(Clone, Copy, Debug, PartialEq, Eq, Error)]
 pub enum OpenError {
     /// A number of the manager's configuration is out of its range, or there is no memory.
-    #[error("the lock manager is not opened")]
+    #[error("{0}")]
     Manager(mm_manager::OpenError),
     /// The number of buckets is out of its range, or there is no memory.
-    #[error("the buckets are not opened")]
+    #[error("{0}")]
     Office(mm_thin::OpenError),
     #[error("a request for memory was refused")]
     Memory,

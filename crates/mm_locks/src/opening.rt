@@ -20,7 +20,7 @@ pub struct LocksConfig {
 #[derive(Clone, Copy, Debug, PartialEq, Eq, Error)]
 pub enum OpenError {
     /// A number of the configuration is out of its range, or a request for memory was refused.
-    #[error("the desk is not opened: {0}")]
+    #[error("{0}")]
     Desk(mm_desk::OpenError),
     #[error("a request for memory was refused")]
     Memory,
