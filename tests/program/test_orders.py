@@ -1,5 +1,6 @@
 """Real runs of threads: each has an order in which a lock manager of one thread gives the same answers (tests/lib/orders.py)."""
 import random
+import shutil
 import threading
 from time import monotonic_ns
 from typing import Any
@@ -7,6 +8,7 @@ from typing import Any
 from lib.orders import has_order, parsed
 from lib.world import IS_SLOW, SEED, Case, each, run
 from program.test_library import HERE, LibraryCase
+from program.test_rust import CrateCase
 from program.test_threads_in_c import LAYER
 from service.test_in_process import ExtensionCase
 
@@ -62,6 +64,20 @@ class InC(Real, LibraryCase):
     def setUpClass(cls) -> None:
         super().setUpClass()
         cls.program = cls.compiled(f"{cls.top}/orders", "-pthread", LAYER, f"{HERE}/orders.c")
+
+    @each(SIZES)
+    def test_runs(self, threads: int, names: int, calls: int) -> None:
+        self.have_orders(self.program, threads, str(threads), str(names), str(calls), str(RUNS), str(SEED))
+
+
+class InRust(Real, CrateCase):
+    @classmethod
+    def setUpClass(cls) -> None:
+        super().setUpClass()
+        shutil.copy(f"{HERE}/orders.rs", f"{cls.crate}/examples")
+        told = cls.cargo("build", "--quiet", "--example", "orders", PASHKURE_LIB_DIR=f"{cls.top}/lib")
+        assert (told.status, told.err) == (0, b""), told.err.decode()
+        cls.program = f"{cls.top}/target/debug/examples/orders"
 
     @each(SIZES)
     def test_runs(self, threads: int, names: int, calls: int) -> None:

@@ -61,7 +61,7 @@ class Declarations(Case):
         self.assertEqual(refusals - {int(number) for _, number in variants}, set())
 
 
-class Crate(LibraryCase):
+class CrateCase(LibraryCase):
     """The crate, built in a copy of its folder."""
 
     @classmethod
@@ -70,10 +70,13 @@ class Crate(LibraryCase):
         super().setUpClass()
         cls.crate = shutil.copytree(CRATE, f"{cls.top}/crate", ignore=shutil.ignore_patterns("target", "Cargo.lock"))
 
-    def cargo(self, *words: str, **env: str) -> Run:
+    @classmethod
+    def cargo(cls, *words: str, **env: str) -> Run:
         given = {name: value for name, value in os.environ.items() if not name.startswith(("CARGO_", "PASHKURE_", "PKG_CONFIG"))}
-        return run("cargo", *words, "--offline", cwd=self.crate, env={**given, "CARGO_TARGET_DIR": f"{self.top}/target", **env})
+        return run("cargo", *words, "--offline", cwd=cls.crate, env={**given, "CARGO_TARGET_DIR": f"{cls.top}/target", **env})
 
+
+class Crate(CrateCase):
     def test_tests(self) -> None:
         """Its tests, and the examples of its pages."""
         told = self.cargo("test", PASHKURE_LIB_DIR=f"{self.top}/lib")
