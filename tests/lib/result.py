@@ -6,6 +6,7 @@ import sys
 import time
 import traceback
 import unittest
+from collections import Counter
 from typing import Iterator
 
 KINDS = ("passed", "failed", "skipped", "known")
@@ -16,8 +17,10 @@ LONG = 20.0
 class Result(unittest.TestResult):
     """Counts each test once, whatever its parts say, and prints what is wrong with it at once."""
 
-    def __init__(self) -> None:
+    def __init__(self, tests: list[unittest.TestCase]) -> None:
         super().__init__()
+        self.sizes = Counter(test.id().rpartition(".")[0] for test in tests)
+        """How many tests each class has."""
         self.counts = dict.fromkeys(KINDS, 0)
         self.kind = "passed"
         self.began = 0.0
@@ -51,7 +54,10 @@ class Result(unittest.TestResult):
             self.tells(test, f"{subtest}\n" + "".join(traceback.format_exception(*err)))
 
     def addSkip(self, test: unittest.TestCase, reason: str) -> None:
-        if self.kind == "passed":
+        if not isinstance(test, unittest.TestCase):  # what is set up for a class, none of whose tests runs then
+            self.counts["skipped"] += self.sizes[test.id().partition("(")[2].rstrip(")")]
+            print(f"skipped: {test.id()}: {reason}", flush=True)
+        elif self.kind == "passed":
             self.kind = "skipped"
             print(f"skipped: {test.id()}: {reason}", flush=True)
 
@@ -84,8 +90,8 @@ def names_of(name: str, word: str) -> list[str]:
 def run(name: str, word: str, path: str) -> int:
     """Runs the tests of a module, and writes the counts to a file."""
     logging.getLogger("asyncio").setLevel(logging.ERROR)  # which also tells of each callback that took long, as on a busy machine
-    result = Result()
-    suite = unittest.TestSuite(loaded(name, word))
+    tests = loaded(name, word)
+    result, suite = Result(tests), unittest.TestSuite(tests)
     suite.run(result)
     with open(path, "w", encoding="ascii") as file:
         print(*(result.counts[kind] for kind in KINDS), file=file)
