@@ -152,7 +152,7 @@ impl Search {
                 each(thread.wakes).for_each(|woken| new.me(woken).has_token = true);
                 (new.me(t).wakes, new.me(t).at) = (0, At::Ready);
             }
-            _ if state.lock.is_some_and(|other| other != t) => return Ok(()),
+            _ if matches!(state.lock, Some(other) if other != t) => return Ok(()),
             at => {
                 new.lock = Some(t);
                 self.step_inside(&mut new, t, at)?;
@@ -372,7 +372,7 @@ impl Search {
         });
         none_of(&[
             (waits_for.is_some() && sleeps_for.is_none(), "one works, and waits"),
-            (sleeps_for.is_some_and(|name| waits_for.is_none() && state.owner(name) != Some(t)), "one sleeps, and waits for nothing"),
+            (matches!(sleeps_for, Some(name) if waits_for.is_none() && state.owner(name) != Some(t)), "one sleeps, and waits for nothing"),
             (chain.contains(&t), "one waits for itself"),
         ])
     }
@@ -411,7 +411,13 @@ fn main() {
     let mut search = Search { sizes, calls: given[5].clone(), fault: given.get(6).cloned().unwrap_or_default(), next: vec![] };
     let (mut seen, mut path) = (HashSet::new(), vec![(State::default(), vec![State::default()])]);
     while let Some((_, next)) = path.last_mut() {
-        let Some(state) = next.pop() else { path.pop(); continue };
+        let state = match next.pop() {
+            Some(state) => state,
+            None => {
+                path.pop();
+                continue;
+            }
+        };
         let mut hasher = DefaultHasher::new();
         state.hash(&mut hasher);
         if seen.insert(hasher.finish()) {
